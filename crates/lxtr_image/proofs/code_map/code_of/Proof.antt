@@ -1,0 +1,30 @@
+-- The loop's invariant: what is found at all is what the places from i on give; each turn follows one of the laws of `Codes`.
+use borrow.Author.Needs.{needs}
+use Prim.Native.Nat.{_≤_, _-_}
+use mathlib.Core.Path.{_≡_}
+use Rattle.lxtr_spec.specs.Image.{labelCount, codeFrom, codeOf}
+use Rattle.lxtr_laws.specs.Codes.{code-start, code-hit, code-miss, code-end}
+use Rattle.lxtr_image.proofs.code_map.code_of.Statement.{statement}
+use Rattle.lxtr_image.proofs.code_map.code_of.Tie as tie
+
+abbrev Inv-loop : tie.InvT-loop
+Inv-loop image label count i₀ i = (count ≡ labelCount image) × (i ≤ count) × (codeOf image label ≡ codeFrom image label (count - i) i)
+
+abbrev μ-loop : tie.MeasureT-loop
+μ-loop image label count i₀ i = count - i
+
+pub code-of-spec : {M : Type 1} → statement M
+code-of-spec =
+    tie.close
+    (tie.spec
+    Inv-loop
+    μ-loop
+    (λ c κs. search needs)
+    (λ c. (search needs, search needs, search code-start))
+    (λ c κs. search needs)
+    (λ c. search needs)
+    (λ c. search code-hit)
+    (λ c. search needs)
+    (λ c. search needs)
+    (λ c. (search needs, search needs, search code-miss))
+    (λ c. search code-end))

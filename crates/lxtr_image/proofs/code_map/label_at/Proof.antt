@@ -1,0 +1,17 @@
+-- The map has L labels after its first 5 bytes.
+use borrow.Author.Needs.{needs}
+use Rattle.lxtr_spec.specs.Image.{labelAt}
+use Rattle.lxtr_image.proofs.code_map.label_at.Statement.{statement}
+use Rattle.lxtr_image.proofs.code_map.label_at.Tie as tie
+
+pub label-at-spec : {M : Type 1} → statement M
+unfolding labelAt
+label-at-spec =
+    tie.close
+    (tie.spec
+    (λ c κs. search needs)
+    (λ c. search needs)
+    (λ c. search needs)
+    (λ c. search needs)
+    (λ c κs. search needs)
+    (λ c. rw (c .be32-at .ensures, c .before .map-at .ensures)))

@@ -1,0 +1,121 @@
+// Refusals 1 to 8, each fault as a test.
+ghost use mathlib.Core.Path.{_≡_};
+ghost use Prim.Native.Nat.{_≤_};
+ghost use lib.ListN.{length};
+ghost use Rattle.lxtr_spec.specs.Image.{headerLength};
+ghost use Rattle.lxtr_spec.specs.Refusals.{magicDiffers, versionWrong, reservedSet, sizesWrong, lengthWrong, mapWrong, offsetEndsWrong, headerRefusal};
+ghost use Rattle.lxtr_laws.specs.Passed.{Sized, Whole};
+use crate::code_map::label_count;
+use crate::code_map::map_version;
+use crate::lists::offset_at;
+use crate::sections::HEADER_LENGTH;
+use crate::sections::child_count;
+use crate::sections::map_at;
+use crate::sections::map_length;
+use crate::sections::slot_count;
+use lxtr_spec::MAX_LISTED;
+use lxtr_spec::MAX_SLOTS;
+use lxtr_spec::MIN_SLOTS;
+
+// 2: first four bytes differ from `LXTR`.
+fn magic_differs(image: &[u8]) -> bool
+    requires { ⌜ headerLength ≤ length (now image) ⌝ }
+    ensures { λ r. ⌜ r ≡ magicDiffers (now (image .entry)) ⌝ }
+{
+    let magic = b"LXTR";
+    (image[0] != magic[0])
+        | (image[1] != magic[1])
+        | (image[2] != magic[2])
+        | (image[3] != magic[3])
+}
+
+// 3: version is not 3.
+fn version_wrong(image: &[u8]) -> bool
+    requires { ⌜ headerLength ≤ length (now image) ⌝ }
+    ensures { λ r. ⌜ r ≡ versionWrong (now (image .entry)) ⌝ }
+{
+    image[4] != 3
+}
+
+// 4: a reserved byte is not 0.
+fn reserved_set(image: &[u8]) -> bool
+    requires { ⌜ headerLength ≤ length (now image) ⌝ }
+    ensures { λ r. ⌜ r ≡ reservedSet (now (image .entry)) ⌝ }
+{
+    let after_version = (image[5] != 0) | (image[6] != 0) | (image[7] != 0);
+    let at_end = (image[20] != 0) | (image[21] != 0) | (image[22] != 0) | (image[23] != 0);
+    after_version | at_end
+}
+
+// 5: N outside 2 to 65,536, or E above N - 2.
+fn sizes_wrong(image: &[u8]) -> bool
+    requires { ⌜ headerLength ≤ length (now image) ⌝ }
+    ensures { λ r. ⌜ r ≡ sizesWrong (now (image .entry)) ⌝ }
+{
+    let slots = slot_count(image) as usize;
+    let children = child_count(image) as usize;
+    if slots < MIN_SLOTS {
+        return true;
+    }
+    (MAX_SLOTS < slots) | (slots - 2 < children)
+}
+
+// 6: length differs from the sum.
+fn length_wrong(image: &[u8]) -> bool
+    requires { ⌜ Sized (now image) ⌝ }
+    ensures { λ r. ⌜ r ≡ lengthWrong (now (image .entry)) ⌝ }
+{
+    image.len() != map_at(image) + map_length(image) as usize
+}
+
+// 7: M below 5, map version not 1, L above 4,095, or M not 5 + 4L.
+fn map_wrong(image: &[u8]) -> bool
+    requires { ⌜ Whole (now image) ⌝ }
+    ensures { λ r. ⌜ r ≡ mapWrong (now (image .entry)) ⌝ }
+{
+    let size = map_length(image) as usize;
+    if size < 5 {
+        return true;
+    }
+    let labels = label_count(image) as usize;
+    (map_version(image) != 1) | (MAX_LISTED < labels) | (size != 5 + 4 * labels)
+}
+
+// 8: first offset not 0 or last not E.
+fn offset_ends_wrong(image: &[u8]) -> bool
+    requires { ⌜ Whole (now image) ⌝ }
+    ensures { λ r. ⌜ r ≡ offsetEndsWrong (now (image .entry)) ⌝ }
+{
+    (offset_at(image, 0) != 0) | (offset_at(image, slot_count(image)) != child_count(image))
+}
+
+// The first of refusals 1 to 8 that holds, or 0, for any bytes.
+pub fn header_refusal(image: &[u8]) -> u8
+    ensures { λ r. ⌜ r ≡ headerRefusal (now (image .entry)) ⌝ }
+{
+    if image.len() < HEADER_LENGTH {
+        return 1;
+    }
+    if magic_differs(image) {
+        return 2;
+    }
+    if version_wrong(image) {
+        return 3;
+    }
+    if reserved_set(image) {
+        return 4;
+    }
+    if sizes_wrong(image) {
+        return 5;
+    }
+    if length_wrong(image) {
+        return 6;
+    }
+    if map_wrong(image) {
+        return 7;
+    }
+    if offset_ends_wrong(image) {
+        return 8;
+    }
+    0
+}

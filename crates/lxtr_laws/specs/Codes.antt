@@ -1,0 +1,35 @@
+-- The search for a label's code, as a loop makes it: what is found at all is what is found at the n - i places from i on.
+-- Each turn reads the label l at place i.
+use Prim.Native.Nat.{ℕ, suc, _+_, _-_, _≤_, _<_}
+use mathlib.Core.Path.{_≡_, sym, _∙_}
+use mathlib.Core.List.{List}
+use mathlib.Core.Option.{Option, some, none}
+use native.Mathlib.Nat.{sub-zero}
+use native.Mathlib.Omega.{arith}
+use borrow.Author.Tests.{eq-eqb, ne-eqb}
+use Rattle.lxtr_spec.specs.Image.{labelCount, labelAt, codeFrom, codeOf}
+
+-- of the numbers from i up to n there is one more than from i + 1
+pub more : (n i : ℕ) → i < n → n - i ≡ suc (n - (i + 1))
+more n i h = omega arith
+
+pub no-more : (n i : ℕ) → n ≤ i → n - i ≡ 0
+no-more n i h = omega arith
+
+module _ (b : List ℕ) (x n : ℕ) where
+  pub code-start : n ≡ labelCount b → codeOf b x ≡ codeFrom b x (n - 0) 0
+  unfolding codeOf
+  code-start e = rw (sub-zero, e)
+
+  module _ (i : ℕ) (o : Option ℕ) (known : o ≡ codeFrom b x (n - i) i) where
+    pub code-hit : (l : ℕ) → i < n → l ≡ labelAt b i → l ≡ x → some (i + 1) ≡ o
+    unfolding codeFrom
+    code-hit l h e m = rw (known, more n i h, codeFrom, eq-eqb (labelAt b i) x (sym e ∙ m))
+
+    pub code-miss : (l : ℕ) → i < n → l ≡ labelAt b i → (l ≡ x → ⊥) → o ≡ codeFrom b x (n - (i + 1)) (i + 1)
+    unfolding codeFrom
+    code-miss l h e m = rw (known, more n i h, codeFrom, ne-eqb (labelAt b i) x (λ q. m (e ∙ q)))
+
+    pub code-end : n ≤ i → none ≡ o
+    unfolding codeFrom
+    code-end h = rw (known, no-more n i h)

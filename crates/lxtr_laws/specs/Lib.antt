@@ -1,0 +1,7 @@
+-- Facts about the definitions of `lxtr_spec`, each stated once. Of these a reader of contracts meets only the three records of Passed.
+pub mod Tests
+pub mod Refusing
+pub mod Joining
+pub mod Passed
+pub mod Codes
+pub mod Examples

@@ -1,0 +1,19 @@
+-- What the answers of the code mean, where they hold an enum.
+use Prim.Native.Nat.{ℕ}
+use mathlib.Core.Option.{Option, some, none}
+use Rattle.lxtr_spec.specs.Searches.{ExactAnswer, ProbeAnswer}
+use Rattle.lxtr_spec.specs.declared.Found.{Found}
+use Rattle.lxtr_spec.specs.declared.Found.the-variants.{Is, Nothing}
+use Rattle.lxtr_spec.specs.declared.Exact.{Exact}
+use Rattle.lxtr_spec.specs.declared.Probe.{Probe}
+
+-- a value number, a code or a slot; or none
+abbrev pub found : Found → Option ℕ
+found (Is n) = some n
+found Nothing = none
+
+abbrev pub exactMeans : Exact → ExactAnswer
+exactMeans r = record { refusal = r .refusal; value = found (r .value) }
+
+abbrev pub probeMeans : Probe → ProbeAnswer
+probeMeans r = record { refusal = r .refusal; value = found (r .value); longer = r .longer }

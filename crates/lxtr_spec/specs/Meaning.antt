@@ -1,0 +1,54 @@
+-- What each search says of an image's set of pairs d, where the query's labels are xs. Exact gives d xs; the others as follows.
+use Prim.Native.Nat.{ℕ, _≤_, _<_}
+use mathlib.Core.Path.{_≡_}
+use mathlib.Core.Logic.{_⊎_}
+use mathlib.Core.List.{List, [], _∷_, _++_, map, List·Memᴰ}
+use mathlib.Core.Option.{Option·getD}
+use mathlib.Core.Bool.{Bool, true}
+use lib.ListN.{length}
+use Rattle.lxtr_spec.specs.Labels.{comesBefore, Pair}
+use Rattle.lxtr_spec.specs.Image.{codeOf}
+use Rattle.lxtr_spec.specs.Sets.{PairSet, Has}
+
+-- each length is below the next one
+unfoldable pub Rising : List (ℕ × ℕ) → Type 0
+Rising [] = Unit {0}
+Rising (m ∷ []) = Unit {0}
+Rising (m ∷ n ∷ ms) = (m .0 < n .0) × Rising (n ∷ ms)
+
+-- Prefixes: ms are length and value of the prefixes of the labels that are keys, shortest first, and none besides.
+pub record PrefixesIn (d : PairSet) (xs : List ℕ) (ms : List (ℕ × ℕ)) : Type 0 where
+  pub rising : Rising ms
+  pub all : (p r : List ℕ) (v : ℕ) → xs ≡ p ++ r → Has d p v → List·Memᴰ (length p, v) ms
+  pub only : (n v : ℕ) → List·Memᴰ (n, v) ms → (p : List ℕ) × (r : List ℕ) × (xs ≡ p ++ r) × (length p ≡ n) × Has d p v
+
+-- Longest: n is the greatest length of a prefix of the labels that is a key, or 0 if there is none.
+pub record LongestIn (d : PairSet) (xs : List ℕ) (n : ℕ) : Type 0 where
+  pub most : (p r : List ℕ) (v : ℕ) → xs ≡ p ++ r → Has d p v → length p ≤ n
+  pub is : (n ≡ 0) ⊎ ((p : List ℕ) × (r : List ℕ) × (v : ℕ) × (xs ≡ p ++ r) × (length p ≡ n) × Has d p v)
+
+-- Probe gives d xs, and says whether longer keys exist: a key of the set goes on after the labels.
+pub record Longer (d : PairSet) (xs : List ℕ) : Type 0 where
+  pub next : ℕ
+  pub rest : List ℕ
+  pub value : ℕ
+  pub is : Has d (xs ++ next ∷ rest) value
+
+-- Code order compares keys by their labels' codes, one after the other, a proper prefix first. (Every label of a key is listed; 0 stands for no code.)
+unfoldable pub labelCode : List ℕ → ℕ → ℕ
+labelCode b x = Option·getD (codeOf b x) 0
+
+unfoldable pub beforeByCode : List ℕ → List ℕ → List ℕ → Bool
+beforeByCode b k l = comesBefore (map (labelCode b) k) (map (labelCode b) l)
+
+-- each pair's key comes before the next one's
+unfoldable pub InCodeOrder : List ℕ → List Pair → Type 0
+InCodeOrder b [] = Unit {0}
+InCodeOrder b (p ∷ []) = Unit {0}
+InCodeOrder b (p ∷ r ∷ ps) = (beforeByCode b (p .0) (r .0) ≡ true) × InCodeOrder b (r ∷ ps)
+
+-- Completions: ps are the pairs of the set whose keys begin with the labels, in code order, and none besides.
+pub record Lists (b : List ℕ) (d : PairSet) (xs : List ℕ) (ps : List Pair) : Type 0 where
+  pub ordered : InCodeOrder b ps
+  pub all : (r : List ℕ) (v : ℕ) → Has d (xs ++ r) v → List·Memᴰ (xs ++ r, v) ps
+  pub only : (k : List ℕ) (v : ℕ) → List·Memᴰ (k, v) ps → (r : List ℕ) × (k ≡ xs ++ r) × Has d k v

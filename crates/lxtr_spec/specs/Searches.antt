@@ -1,0 +1,96 @@
+-- Document 01, "The searches": exact, prefixes, longest and probe, for all bytes.
+use Prim.Native.Nat.{ℕ, zero, suc, _+_, _*_, _-_, _%_}
+use mathlib.Core.List.{List, [], _∷_, _++_, map}
+use mathlib.Core.Option.{Option, some, none}
+use mathlib.Core.Bool.{Bool, false, not}
+use lib.ListN.{length, take, replicate}
+use lib.Dec.{eqb}
+use Rattle.lxtr_spec.specs.Labels.{maxLabels, lengthCount, labelsOf}
+use Rattle.lxtr_spec.specs.Refusals.{refuseIf, firstRefusal, unlessRefused, headerRefusal}
+use Rattle.lxtr_spec.specs.Walks.{walkWithin, valueAt, valueReached, exactAt, longerAt}
+use Rattle.lxtr_spec.specs.declared.Prefixes.{Prefixes}
+
+-- All first test 1 to 8, then give 13 if the query length is no multiple of four.
+unfoldable pub queryRefusal : List ℕ → ℕ
+queryRefusal q = refuseIf (not (eqb (length q % 4) 0)) 13 0
+
+unfoldable pub searchRefusal : List ℕ → List ℕ → ℕ
+searchRefusal b q = firstRefusal (headerRefusal b) (queryRefusal q)
+
+-- Exact: the value number or none; beyond 64 labels, none.
+pub record ExactAnswer : Type 0 where
+  pub refusal : ℕ
+  pub value : Option ℕ
+
+unfoldable pub exactValue : List ℕ → List ℕ → Option ℕ
+exactValue b xs = valueReached b (walkWithin b xs)
+
+unfoldable pub exactOf : List ℕ → List ℕ → ExactAnswer
+exactOf b q =
+    let value = exactValue b (labelsOf q) in
+    record { refusal = searchRefusal b q; value = unlessRefused (searchRefusal b q) value none }
+
+-- Prefixes: length and value of each prefix of xs to which f gives a value, shortest first: of those of the n lengths from k on, and of all
+unfoldable pub lengthMatch : ℕ → Option ℕ → List (ℕ × ℕ)
+lengthMatch k none = []
+lengthMatch k (some v) = (k, v) ∷ []
+
+unfoldable pub matchesFrom : (List ℕ → Option ℕ) → List ℕ → ℕ → ℕ → List (ℕ × ℕ)
+matchesFrom f xs zero k = []
+matchesFrom f xs (suc n) k = lengthMatch k (f (take k xs)) ++ matchesFrom f xs n (k + 1)
+
+unfoldable pub matches : (List ℕ → Option ℕ) → List ℕ → List (ℕ × ℕ)
+matches f xs = matchesFrom f xs (length xs + 1) 0
+
+-- Only the first 64 query labels count.
+unfoldable pub prefixMatches : List ℕ → List ℕ → List (ℕ × ℕ)
+prefixMatches b q = matches (exactAt b) (take maxLabels (labelsOf q))
+
+-- a count and 65 places, one for each possible length from 0 to 64; unused places zero
+abbrev pub padded : List ℕ → List ℕ
+padded xs = xs ++ replicate (lengthCount - length xs) 0
+
+abbrev pub matchLength : ℕ × ℕ → ℕ
+matchLength m = m .0
+
+abbrev pub matchValue : ℕ × ℕ → ℕ
+matchValue m = m .1
+
+unfoldable pub prefixesAnswer : ℕ → List (ℕ × ℕ) → Prefixes
+prefixesAnswer k ms = record { refusal = k; count = length ms; lengths = padded (map matchLength ms); values = padded (map matchValue ms) }
+
+unfoldable pub prefixesOf : List ℕ → List ℕ → Prefixes
+prefixesOf b q = let ms = prefixMatches b q in prefixesAnswer (searchRefusal b q) (unlessRefused (searchRefusal b q) ms [])
+
+-- Longest: the matched front part of the caller's query, the longest that Prefixes reports; empty if none.
+pub record LongestAnswer : Type 0 where
+  pub refusal : ℕ
+  pub part : List ℕ
+
+unfoldable pub lastLength : List (ℕ × ℕ) → ℕ
+lastLength [] = 0
+lastLength (m ∷ []) = m .0
+lastLength (m ∷ m′ ∷ ms) = lastLength (m′ ∷ ms)
+
+-- its length in labels
+unfoldable pub longestLength : List ℕ → List ℕ → ℕ
+longestLength b q = let longest = lastLength (prefixMatches b q) in unlessRefused (searchRefusal b q) longest 0
+
+unfoldable pub longestOf : List ℕ → List ℕ → LongestAnswer
+longestOf b q = record { refusal = searchRefusal b q; part = take (4 * longestLength b q) q }
+
+-- Probe: value or none, and whether longer keys exist. If the walk fails or the query passes 64 labels: none, no.
+pub record ProbeAnswer : Type 0 where
+  pub refusal : ℕ
+  pub value : Option ℕ
+  pub longer : Bool
+
+unfoldable pub probeAnswer : ℕ → Option ℕ → Bool → ProbeAnswer
+probeAnswer k v l = record { refusal = k; value = v; longer = l }
+
+unfoldable pub probeAt : List ℕ → Option ℕ → ProbeAnswer
+probeAt b none = probeAnswer 0 none false
+probeAt b (some n) = probeAnswer 0 (valueAt b n) (longerAt b n)
+
+unfoldable pub probeOf : List ℕ → List ℕ → ProbeAnswer
+probeOf b q = let answer = probeAt b (walkWithin b (labelsOf q)) in unlessRefused (searchRefusal b q) answer (probeAnswer (searchRefusal b q) none false)

@@ -1,0 +1,55 @@
+// The answers and the limits of LXTR tools. What they mean is said in specs/, which holds document 01 as definitions.
+
+// A key has at most so many labels; from this limit follows the number of possible lengths.
+pub const MAX_LABELS: usize = 64;
+
+pub const LENGTH_COUNT: usize = MAX_LABELS + 1;
+
+// An image has MIN_SLOTS to MAX_SLOTS slots, and its code map lists at most MAX_LISTED labels.
+pub const MIN_SLOTS: usize = 2;
+
+pub const MAX_SLOTS: usize = 65536;
+
+pub const MAX_LISTED: usize = 4095;
+
+// A value number, a code or a slot; or none.
+pub enum Found {
+    Is(u32),
+    Nothing,
+}
+
+// In each answer below `refusal` is document 01's number, or 0 for none.
+
+// The check: how many pairs the image's set has.
+pub struct Verdict {
+    pub refusal: u8,
+    pub pairs: u32,
+}
+
+// The exact match.
+pub struct Exact {
+    pub refusal: u8,
+    pub value: Found,
+}
+
+// The prefixes of a query that are keys, shortest first: `count` places of each array are filled, the others are zero.
+pub struct Prefixes {
+    pub refusal: u8,
+    pub count: u32,
+    pub lengths: [u32; LENGTH_COUNT],
+    pub values: [u32; LENGTH_COUNT],
+}
+
+// The probe: the value, and whether longer keys exist.
+pub struct Probe {
+    pub refusal: u8,
+    pub value: Found,
+    pub longer: bool,
+}
+
+// The completions: how many were written, and whether one had no room.
+pub struct Completion {
+    pub refusal: u8,
+    pub count: u32,
+    pub stopped: bool,
+}
