@@ -5,7 +5,9 @@ use native.Mathlib.Omega.{arith}
 use mathlib.Core.Path.{_≡_, refl, ap, ap₂, _∙_}
 use lib.Arith.{bin-ind, digits-div, digits-mod}
 use lib.Bits.{bitXor, differ, xor-step, xor-zero-r}
+use mathlib.Core.List.{List}
 use Rattle.lxtr_spec.specs.Joining.{slotUnder, codeUnder}
+use Rattle.lxtr_spec.specs.Image.{base, slotFrom, codeTo}
 
 differ-lt : (x y : ℕ) → x < 2 → y < 2 → differ x y < 2
 differ-lt zero y h k = k
@@ -45,3 +47,17 @@ slot-of-code a s = xor-back a s
 pub slot-of-end : (a : ℕ) → slotUnder a 0 ≡ a
 unfolding slotUnder
 slot-of-end a = xor-zero-r a
+
+-- the same of the slots of an image
+module _ (b : List ℕ) (n : ℕ) where
+  pub code-to-slot : (c : ℕ) → codeTo b n (slotFrom b n c) ≡ c
+  unfolding codeTo slotFrom
+  code-to-slot c = code-of-slot (base b n) c
+
+  pub slot-by-code : (s : ℕ) → slotFrom b n (codeTo b n s) ≡ s
+  unfolding codeTo slotFrom
+  slot-by-code s = slot-of-code (base b n) s
+
+  pub slot-of-base : slotFrom b n 0 ≡ base b n
+  unfolding slotFrom
+  slot-of-base = slot-of-end (base b n)

@@ -1,7 +1,9 @@
 -- Facts about the definitions of `lxtr_spec`, each stated once. Of these a reader of contracts meets only the three records of Passed.
 pub mod Tests
+pub mod Ranges
 pub mod Refusing
 pub mod Joining
+pub mod Order
 pub mod Passed
 pub mod Codes
 pub mod Examples

@@ -1,9 +1,12 @@
 -- A chain of refusals: what each test's outcome makes of the answer, and what the answer 0 says of all tests.
-use Prim.Native.Nat.{ℕ, _+_}
+use Prim.Native.Nat.{ℕ, zero, suc}
 use mathlib.Core.Path.{_≡_, refl}
-use mathlib.Core.Bool.{Bool, true, false}
+use mathlib.Core.Logic.{_↔_}
+use mathlib.Core.Bool.{Bool, true, false, true≢false}
 use native.Mathlib.Omega.{arith}
-use Rattle.lxtr_spec.specs.Refusals.{refuseIf}
+use lib.Dec.{ltb}
+use borrow.Author.Tests.{ltb-true}
+use Rattle.lxtr_spec.specs.Refusals.{refuseIf, firstRefusal}
 use Rattle.lxtr_laws.specs.Tests.{outcome}
 
 -- a fault that is there gives its number
@@ -16,11 +19,16 @@ pub goes-on : (t : Bool) (k later n : ℕ) → t ≡ false → n ≡ later → n
 unfolding refuseIf
 goes-on t k later n e h = rw e h
 
--- no refusal: the fault is not there, and nothing after it was refused
-pub clear : (t : Bool) (k later : ℕ) → refuseIf t (k + 1) later ≡ 0 → (t ≡ false) × (later ≡ 0)
+-- no refusal: the fault is not there, and nothing after it was refused (refusal numbers are above 0)
+pub none-refused : (t : Bool) (k later : ℕ) → ltb 0 k ≡ true → (refuseIf t k later ≡ 0) ↔ ((t ≡ false) × (later ≡ 0))
 unfolding refuseIf
-clear true k later e = absurd (omega arith)
-clear false k later e = (refl, e)
+none-refused true k later h = (λ e. absurd (omega (arith, ltb-true 0 k h)), λ p. absurd (true≢false (p .0)))
+none-refused false k later h = (λ e. (refl, e), λ p. p .1)
+
+pub none-first : (n later : ℕ) → (firstRefusal n later ≡ 0) ↔ ((n ≡ 0) × (later ≡ 0))
+unfolding firstRefusal
+none-first zero later = (λ e. (refl, e), λ p. p .1)
+none-first (suc n) later = (λ e. absurd (omega arith), λ p. absurd (omega arith))
 
 -- what a `return` in a chain of tests is shown by: faults that are not there, and one that is
 pub ruleset chain = (refused, goes-on, outcome)

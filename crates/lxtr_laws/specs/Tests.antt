@@ -1,11 +1,75 @@
--- Faults joined by or, and the results of calls that test for them.
+-- Tests: each outcome of a test is a fact, and the fact is that outcome, stated both ways as `↔`.
+-- `simp tests` (of Ranges) so turns a fault that is not there, whatever it is joined of, into the facts that this leaves, and back.
+use Prim.Native.Nat.{ℕ, _≤_, _<_}
 use mathlib.Core.Path.{_≡_, refl, sym, _∙_}
-use mathlib.Core.Bool.{Bool, true, false, _||_, true≢false}
+use mathlib.Core.Logic.{_↔_, _≢_, _⊎_, inl, inr}
+use mathlib.Core.Bool.{Bool, true, false, _&&_, _||_, not, Bool·beq, true≢false, false≢true}
+use lib.Dec.{leb, ltb, eqb}
+use borrow.Author.Tests.{ltb-true, ltb-false, leb-true, leb-false, eqb-true, eqb-false, lt-ltb, le-ltb, le-leb, lt-leb, eq-eqb, ne-eqb}
 
--- where neither of two faults is there
-pub neither : (s t : Bool) → (s || t) ≡ false → (s ≡ false) × (t ≡ false)
-neither true t e = absurd (true≢false e)
-neither false t e = (refl, e)
+pub or-is-false : (s t : Bool) → ((s || t) ≡ false) ↔ ((s ≡ false) × (t ≡ false))
+or-is-false true t = (λ e. absurd (true≢false e), λ p. p .0)
+or-is-false false t = (λ e. (refl, e), λ p. p .1)
+
+pub or-is-true : (s t : Bool) → ((s || t) ≡ true) ↔ ((s ≡ true) ⊎ (t ≡ true))
+or-is-true true t = (λ e. inl refl, λ p. refl)
+or-is-true false t = (λ e. inr e, one)
+  where
+    one : (false ≡ true) ⊎ (t ≡ true) → t ≡ true
+    one (inl e) = absurd (false≢true e)
+    one (inr e) = e
+
+pub and-is-true : (s t : Bool) → ((s && t) ≡ true) ↔ ((s ≡ true) × (t ≡ true))
+and-is-true true t = (λ e. (refl, e), λ p. p .1)
+and-is-true false t = (λ e. absurd (false≢true e), λ p. p .0)
+
+-- a fault `t` under a condition `s`
+pub and-is-false : (s t : Bool) → ((s && t) ≡ false) ↔ (s ≡ true → t ≡ false)
+and-is-false true t = (λ e _. e, λ f. f refl)
+and-is-false false t = (λ e f. absurd (false≢true f), λ f. refl)
+
+pub not-is-false : (t : Bool) → (not t ≡ false) ↔ (t ≡ true)
+not-is-false true = (λ e. refl, λ e. refl)
+not-is-false false = (λ e. sym e, λ e. sym e)
+
+pub not-is-true : (t : Bool) → (not t ≡ true) ↔ (t ≡ false)
+not-is-true true = (λ e. sym e, λ e. sym e)
+not-is-true false = (λ e. refl, λ e. refl)
+
+pub beq-is-true : (s t : Bool) → (Bool·beq s t ≡ true) ↔ (s ≡ t)
+beq-is-true true true = (λ e. refl, λ e. refl)
+beq-is-true true false = (λ e. sym e, λ e. sym e)
+beq-is-true false true = (λ e. e, λ e. e)
+beq-is-true false false = (λ e. refl, λ e. refl)
+
+pub ltb-is-true : (m n : ℕ) → (ltb m n ≡ true) ↔ (m < n)
+ltb-is-true m n = (ltb-true m n, lt-ltb m n)
+
+pub ltb-is-false : (m n : ℕ) → (ltb m n ≡ false) ↔ (n ≤ m)
+ltb-is-false m n = (ltb-false m n, le-ltb m n)
+
+pub leb-is-true : (m n : ℕ) → (leb m n ≡ true) ↔ (m ≤ n)
+leb-is-true m n = (leb-true m n, le-leb m n)
+
+pub leb-is-false : (m n : ℕ) → (leb m n ≡ false) ↔ (n < m)
+leb-is-false m n = (leb-false m n, lt-leb m n)
+
+pub eqb-is-true : (m n : ℕ) → (eqb m n ≡ true) ↔ (m ≡ n)
+eqb-is-true m n = (eqb-true m n, eq-eqb m n)
+
+pub eqb-is-false : (m n : ℕ) → (eqb m n ≡ false) ↔ (m ≢ n)
+eqb-is-false m n = (eqb-false m n, ne-eqb m n)
+
+-- a test that cannot hold does not
+pub is-false : (t : Bool) → (t ≡ true → ⊥) → t ≡ false
+is-false true h = absurd (h refl)
+is-false false h = refl
+
+-- two tests that hold together are one
+pub same-test : (s t : Bool) → (s ≡ true → t ≡ true) → (t ≡ true → s ≡ true) → s ≡ t
+same-test true t f g = sym (f refl)
+same-test false true f g = g refl
+same-test false false f g = refl
 
 -- what a call's result says of the test that it computes: for `search`
 pub outcome : (r t a : Bool) → r ≡ t → r ≡ a → t ≡ a

@@ -55,9 +55,13 @@ unfoldable pub fitting : ℕ → List Pair → List Pair
 fitting r [] = []
 fitting r (p ∷ ps) = cond (leb (length (recordOf p)) r) (p ∷ fitting (r - length (recordOf p)) ps) []
 
--- version byte 1, count in four bytes, then the records; bytes past the last record stay
+-- version byte 1, count in four bytes, then the records
+unfoldable pub listingOf : List Pair → List ℕ
+listingOf ps = 1 ∷ (beBytes (length ps) ++ recordsOf ps)
+
+-- the room with a listing at its front; bytes past the last record stay
 unfoldable pub listedIn : List ℕ → List Pair → List ℕ
-listedIn room ps = 1 ∷ (beBytes (length ps) ++ (recordsOf ps ++ drop (5 + length (recordsOf ps)) room))
+listedIn room ps = listingOf ps ++ drop (length (listingOf ps)) room
 
 -- Room is enough for a set when it has at least 5 bytes plus, for each pair, 5 bytes and four for each label of its key.
 unfoldable pub roomFor : List Pair → ℕ

@@ -8,6 +8,7 @@ use mathlib.Core.Bool.{Bool, true}
 use lib.ListN.{length}
 use Rattle.lxtr_spec.specs.Labels.{comesBefore, Pair}
 use Rattle.lxtr_spec.specs.Image.{codeOf}
+use Rattle.lxtr_spec.specs.Completions.{roomFor}
 use Rattle.lxtr_spec.specs.Sets.{PairSet, Has}
 
 -- each length is below the next one
@@ -52,3 +53,10 @@ pub record Lists (b : List ℕ) (d : PairSet) (xs : List ℕ) (ps : List Pair) :
   pub ordered : InCodeOrder b ps
   pub all : (r : List ℕ) (v : ℕ) → Has d (xs ++ r) v → List·Memᴰ (xs ++ r, v) ps
   pub only : (k : List ℕ) (v : ℕ) → List·Memᴰ (k, v) ps → (r : List ℕ) × (k ≡ xs ++ r) × Has d k v
+
+-- It stops before the first record without room: fit is the front part of ps for which r bytes are room enough, and with the next pair they are not.
+pub record FittingFront (r : ℕ) (ps fit : List Pair) : Type 0 where
+  pub rest : List Pair
+  pub parts : ps ≡ fit ++ rest
+  pub fits : roomFor fit ≤ r
+  pub full : (p : Pair) (later : List Pair) → rest ≡ p ∷ later → r < roomFor (fit ++ p ∷ [])

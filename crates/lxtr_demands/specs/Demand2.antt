@@ -1,0 +1,39 @@
+-- Demand 2 for the searches and completions: what each answers over an image is what the image's set of pairs says.
+-- Only the statement; the proof is `demand2` in Laws/Demand2.antt.
+use Prim.Native.Nat.{ℕ, _*_, _%_, _≤_}
+use mathlib.Core.Path.{_≡_}
+use mathlib.Core.Logic.{_↔_}
+use mathlib.Core.List.{List, _++_}
+use mathlib.Core.Bool.{true}
+use lib.ListN.{length, take, drop}
+use lib.Dec.{ltb}
+use Rattle.lxtr_spec.specs.Labels.{labelsOf, Pair}
+use Rattle.lxtr_spec.specs.Searches.{exactOf, prefixesAnswer, prefixesOf, longestOf, probeOf}
+use Rattle.lxtr_spec.specs.Completions.{listingOf, roomFor, completionAnswer, completionOf}
+use Rattle.lxtr_spec.specs.Sets.{PairSet, ImageOf}
+use Rattle.lxtr_spec.specs.Meaning.{PrefixesIn, LongestIn, Longer, Lists, FittingFront}
+
+-- the answers to the query q, whose labels are xs, over an image b of the set d
+pub record Answered (b : List ℕ) (d : PairSet) (q xs : List ℕ) : Type 0 where
+  -- Exact: the value number or none.
+  pub exact : exactOf b q ≡ record { refusal = 0; value = d xs }
+  -- Prefixes: length and value of each prefix that is a key, shortest first. There is one such list.
+  pub prefixes : (ms : List (ℕ × ℕ)) → PrefixesIn d xs ms → prefixesOf b q ≡ prefixesAnswer 0 ms
+  pub some-prefixes : (ms : List (ℕ × ℕ)) × PrefixesIn d xs ms
+  -- Longest: the longest of these, as the front part of the query; empty if none. There is one such length.
+  pub longest : (n : ℕ) → LongestIn d xs n → longestOf b q ≡ record { refusal = 0; part = take (4 * n) q }
+  pub some-longest : (n : ℕ) × LongestIn d xs n
+  -- Probe: value or none, and whether longer keys exist.
+  pub probe-refusal : probeOf b q .refusal ≡ 0
+  pub probe-value : probeOf b q .value ≡ d xs
+  pub probe-longer : (probeOf b q .longer ≡ true) ↔ Longer d xs
+  -- Completions: the pairs whose keys begin with the labels, in code order. There is one such list.
+  pub some-listing : (ps : List Pair) × Lists b d xs ps
+  -- Into lent room of 5 bytes or more it writes the front part of this list that has room, and says whether it stopped before the end.
+  pub completion : (ps fit : List Pair) (room : List ℕ) → Lists b d xs ps → 5 ≤ length room → FittingFront (length room) ps fit
+      → completionOf b q room ≡ completionAnswer 0 (length fit) (ltb (length fit) (length ps)) (listingOf fit ++ drop (roomFor fit) room)
+  pub some-front : (ps : List Pair) (room : List ℕ) → 5 ≤ length room → (fit : List Pair) × FittingFront (length room) ps fit
+
+-- for every image, and every query whose length is a multiple of four
+abbrev pub Demand2 : Type 0
+Demand2 = (b : List ℕ) (d : PairSet) (q : List ℕ) → ImageOf b d → length q % 4 ≡ 0 → Answered b d q (labelsOf q)

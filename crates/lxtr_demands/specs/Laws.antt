@@ -1,0 +1,35 @@
+-- The proofs of the demands, one idea a file.
+-- Facts: what the tests of the check and the searches say.
+pub mod Facts
+pub mod Keys
+pub mod Codes
+pub mod Steps
+pub mod Refusals
+pub mod Counting
+pub mod Rows
+-- Bytes that the check accepts are an image.
+pub mod Lists
+pub mod Kinds
+pub mod Walks
+pub mod WalkSlots
+pub mod Sound
+-- An image is accepted, and has one set.
+pub mod Slots
+pub mod Entries
+pub mod SlotsPass
+pub mod ListsPass
+pub mod Images
+-- What is listed, and how many there are.
+pub mod Sorted
+pub mod Runs
+pub mod CodeOrder
+pub mod Listings
+pub mod Counts
+pub mod Queries
+pub mod Rooms
+pub mod Completions
+pub mod Demand3
+-- The other searches.
+pub mod Probes
+pub mod Prefixes
+pub mod Demand2

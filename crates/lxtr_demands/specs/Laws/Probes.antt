@@ -1,0 +1,82 @@
+-- The width of a slot's children list says whether longer keys exist: its entries are the slots of longer prefixes, and the prefix's own end.
+-- The end has code 0, so where it is listed it comes first.
+use Prim.Native.Nat.{ℕ, _+_, _<_}
+use native.Mathlib.Omega.{arith}
+use mathlib.Core.Path.{_≡_, refl, sym, ap, _∙_}
+use mathlib.Core.Logic.{_≢_, _↔_, inr}
+use mathlib.Core.List.{List, [], _∷_, _++_, append-assoc}
+use mathlib.Core.Option.{Option, some, none}
+use mathlib.Core.Bool.{Bool, true, false, cond, true≢false, false≢true}
+use Rattle.lxtr_spec.specs.Image.{hasLeaf, offset, child, listWidth}
+use Rattle.lxtr_spec.specs.Walks.{valueReached, longerAt}
+use Rattle.lxtr_spec.specs.Searches.{probeAnswer, probeAt}
+use Rattle.lxtr_spec.specs.Sets.{PairSet, Has, Prefix, InList}
+use Rattle.lxtr_spec.specs.Meaning.{Longer}
+use Rattle.lxtr_laws.specs.Tests.{ltb-is-true}
+use Rattle.lxtr_demands.specs.Laws.Keys.{snoc-cons, prefix-part, prefix-on}
+use Rattle.lxtr_demands.specs.Laws.Rows.{rows-of, code-rises, in-list}
+use Rattle.lxtr_demands.specs.Laws.Kinds.{KnownImage}
+use Rattle.lxtr_demands.specs.Laws.Slots.{prefix-slot, ChildIn, longer, ended}
+use Rattle.lxtr_demands.specs.Laws.Entries.{ended-code, entry-is, ended-place, longer-place}
+use Rattle.lxtr_demands.specs.Laws.Queries.{Leads, to-slot, nowhere}
+
+-- a key that goes on makes a longer prefix, and the other way round
+module _ (d : PairSet) (xs : List ℕ) where
+  longer-prefix : (l : Longer d xs) → Prefix d (xs ++ l .next ∷ [])
+  longer-prefix l = record { is = inr (l .rest, l .value, rw snoc-cons at (l .is)) }
+
+  prefix-longer : (x : ℕ) → Prefix d (xs ++ x ∷ []) → Longer d xs
+  prefix-longer x f = let k = prefix-on d xs x f in record { next = x; rest = k .0; value = k .1; is = rw append-assoc at (k .2) }
+
+module _ {b : List ℕ} {d : PairSet} (known : KnownImage b d) (xs : List ℕ) where
+  open KnownImage known using (image, kinds)
+
+  module _ (f : Prefix d xs) where
+    -- an entry that is not the end
+    entry-longer : (j : ℕ) → InList b (image .slot xs) j → ((v : ℕ) → Has d xs v → child b j ≡ image .end xs → ⊥) → Longer d xs
+    entry-longer j i no-end = go (entry-is known xs f j i) refl
+      where
+        go : {s : ℕ} → ChildIn image xs s → child b j ≡ s → Longer d xs
+        go (longer x g) e = prefix-longer d xs x g
+        go (ended v h) e = absurd (no-end v h e)
+
+    wide-longer : (a : Bool) → hasLeaf b (image .slot xs) ≡ a → cond a 1 0 < listWidth b (image .slot xs) → Longer d xs
+    wide-longer true e h =
+        let n : ℕ = image .slot xs in
+        let at = prefix-slot image xs f in
+        let first = in-list b n (offset b n) .1 (omega arith) in
+        let second = in-list b n (offset b n + 1) .1 (omega arith) in
+        let rises = code-rises (rows-of (image .lists)) n (at .from) (at .to) (offset b n) (offset b n + 1) first second (omega arith) in
+        entry-longer (offset b n + 1) second (λ v k c. omega (arith, rises, ended-code image xs (offset b n + 1) v k c))
+    wide-longer false e h =
+        let n : ℕ = image .slot xs in
+        entry-longer (offset b n) (in-list b n (offset b n) .1 (omega arith)) (λ v k c. true≢false (sym (image .placed .slot-flag xs f .1 (v, k)) ∙ e))
+
+    longer-wide : Longer d xs → (a : Bool) → hasLeaf b (image .slot xs) ≡ a → cond a 1 0 < listWidth b (image .slot xs)
+    longer-wide l true e =
+        let g = longer-prefix d xs l in
+        let k = image .placed .slot-flag xs f .0 e in
+        let i = longer-place image xs (l .next) g in
+        let j = ended-place image xs (k .0) (k .1) in
+        let apart : i .0 ≢ j .0 = λ z. image .placed .slot-no-end (xs ++ l .next ∷ []) xs (k .0) g (k .1) (sym (i .2) ∙ ap (child b) z ∙ j .2) in
+        omega (arith, in-list b (image .slot xs) (i .0) .0 (i .1), in-list b (image .slot xs) (j .0) .0 (j .1))
+    longer-wide l false e = let i = longer-place image xs (l .next) (longer-prefix d xs l) in omega (arith, in-list b (image .slot xs) (i .0) .0 (i .1))
+
+    longer-at : (longerAt b (image .slot xs) ≡ true) ↔ Longer d xs
+    unfolding longerAt
+    longer-at = simp ltb-is-true (wide-longer (hasLeaf b (image .slot xs)) refl, λ l. longer-wide l (hasLeaf b (image .slot xs)) refl)
+
+  pub probe-longer : {o : Option ℕ} → Leads d (image .slot) xs o → (probeAt b o .longer ≡ true) ↔ Longer d xs
+  unfolding probeAt probeAnswer
+  probe-longer (to-slot f) = longer-at f
+  probe-longer (nowhere n) = (λ e. absurd (false≢true e), λ l. absurd (n (prefix-part d xs (l .next ∷ []) (longer-prefix d xs l))))
+
+pub probe-refusal : (b : List ℕ) (o : Option ℕ) → probeAt b o .refusal ≡ 0
+unfolding probeAt probeAnswer
+probe-refusal b none = refl
+probe-refusal b (some n) = refl
+
+pub probe-value : (b : List ℕ) (o : Option ℕ) → probeAt b o .value ≡ valueReached b o
+unfolding probeAt probeAnswer valueReached
+probe-value b none = refl
+probe-value b (some n) = refl

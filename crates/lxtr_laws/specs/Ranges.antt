@@ -1,0 +1,55 @@
+-- Tests of all numbers below a bound: what the outcome says of each number.
+use Prim.Native.Nat.{ℕ, zero, suc, _<_}
+use mathlib.Core.Path.{_≡_, refl}
+use mathlib.Core.Logic.{_↔_, _⊎_, inl, inr, ⊎-elim}
+use mathlib.Core.Bool.{Bool, true, false, _||_, false≢true}
+use native.Mathlib.Nat.{not-suc-le-zero}
+use native.Mathlib.Omega.{arith}
+use native.Mathlib.Decide.{decLt}
+use Rattle.lxtr_spec.specs.Ranges.{anyBelow}
+use Rattle.lxtr_laws.specs.Tests.{or-is-false, and-is-true, and-is-false, not-is-false, not-is-true, beq-is-true, ltb-is-true, ltb-is-false, leb-is-true, leb-is-false, eqb-is-true, eqb-is-false}
+
+-- a number below n + 1 is n or below n
+pub below-suc : (i n : ℕ) → i < suc n → (i ≡ n) ⊎ (i < n)
+below-suc i n h = go (decLt i n)
+  where
+    go : Dec (i < n) → (i ≡ n) ⊎ (i < n)
+    go (yes l) = inr l
+    go (no g) = inl (omega arith)
+
+module _ (f : ℕ → Bool) where
+  none-at : (n : ℕ) → anyBelow n f ≡ false → (i : ℕ) → i < n → f i ≡ false
+  unfolding anyBelow
+  none-at zero e i h = absurd (not-suc-le-zero h)
+  none-at (suc n) e i h = ⊎-elim (λ s. rw s (or-is-false (anyBelow n f) (f n) .0 e .1)) (none-at n (or-is-false (anyBelow n f) (f n) .0 e .0) i) (below-suc i n h)
+
+  none-of : (n : ℕ) → ((i : ℕ) → i < n → f i ≡ false) → anyBelow n f ≡ false
+  unfolding anyBelow
+  none-of zero h = refl
+  none-of (suc n) h = rw (none-of n (λ i l. h i (omega arith)), h n (omega arith))
+
+  some-at : (n : ℕ) → anyBelow n f ≡ true → (i : ℕ) × (i < n) × (f i ≡ true)
+  unfolding anyBelow
+  some-at zero e = absurd (false≢true e)
+  some-at (suc n) e = go (some-at n) (anyBelow n f) refl e
+    where
+      go : (anyBelow n f ≡ true → (i : ℕ) × (i < n) × (f i ≡ true)) → (a : Bool) → anyBelow n f ≡ a → (a || f n) ≡ true → (i : ℕ) × (i < suc n) × (f i ≡ true)
+      go ih true p t = let r = ih p in (r .0, omega arith, r .2)
+      go ih false p t = (n, omega arith, t)
+
+  some-of : (n i : ℕ) → i < n → f i ≡ true → anyBelow n f ≡ true
+  some-of n i h t = go (anyBelow n f) refl
+    where
+      go : (a : Bool) → anyBelow n f ≡ a → anyBelow n f ≡ true
+      go true p = p
+      go false p = absurd (let z : f i ≡ false = none-at n p i h in false≢true (rw z at t))
+
+-- no number below n passes exactly when each fails; one does exactly when there is one
+pub any-false : (n : ℕ) (f : ℕ → Bool) → (anyBelow n f ≡ false) ↔ ((i : ℕ) → i < n → f i ≡ false)
+any-false n f = (none-at f n, none-of f n)
+
+pub any-true : (n : ℕ) (f : ℕ → Bool) → (anyBelow n f ≡ true) ↔ ((i : ℕ) × (i < n) × (f i ≡ true))
+any-true n f = (some-at f n, λ p. some-of f n (p .0) (p .1) (p .2))
+
+-- every law of a test's outcome, for `simp`
+pub ruleset tests = (or-is-false, and-is-true, and-is-false, not-is-false, not-is-true, beq-is-true, ltb-is-true, ltb-is-false, leb-is-true, leb-is-false, eqb-is-true, eqb-is-false, any-false)
