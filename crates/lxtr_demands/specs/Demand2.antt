@@ -9,7 +9,7 @@ use lib.ListN.{length, take, drop}
 use lib.Dec.{ltb}
 use Rattle.lxtr_spec.specs.Labels.{labelsOf, Pair}
 use Rattle.lxtr_spec.specs.Searches.{exactOf, prefixesAnswer, prefixesOf, longestOf, probeOf}
-use Rattle.lxtr_spec.specs.Completions.{listingOf, roomFor, completionAnswer, completionOf}
+use Rattle.lxtr_spec.specs.Completions.{listingOf, roomFor, completionOf}
 use Rattle.lxtr_spec.specs.Sets.{PairSet, ImageOf}
 use Rattle.lxtr_spec.specs.Meaning.{PrefixesIn, LongestIn, Longer, Lists, FittingFront}
 
@@ -20,19 +20,24 @@ pub record Answered (b : List ℕ) (d : PairSet) (q xs : List ℕ) : Type 0 wher
   -- Prefixes: length and value of each prefix that is a key, shortest first. There is one such list.
   pub prefixes : (ms : List (ℕ × ℕ)) → PrefixesIn d xs ms → prefixesOf b q ≡ prefixesAnswer 0 ms
   pub some-prefixes : (ms : List (ℕ × ℕ)) × PrefixesIn d xs ms
+  pub one-prefixes : (ms ns : List (ℕ × ℕ)) → PrefixesIn d xs ms → PrefixesIn d xs ns → ms ≡ ns
   -- Longest: the longest of these, as the front part of the query; empty if none. There is one such length.
   pub longest : (n : ℕ) → LongestIn d xs n → longestOf b q ≡ record { refusal = 0; part = take (4 * n) q }
   pub some-longest : (n : ℕ) × LongestIn d xs n
+  pub one-longest : (m n : ℕ) → LongestIn d xs m → LongestIn d xs n → m ≡ n
   -- Probe: value or none, and whether longer keys exist.
   pub probe-refusal : probeOf b q .refusal ≡ 0
   pub probe-value : probeOf b q .value ≡ d xs
   pub probe-longer : (probeOf b q .longer ≡ true) ↔ Longer d xs
   -- Completions: the pairs whose keys begin with the labels, in code order. There is one such list.
   pub some-listing : (ps : List Pair) × Lists b d xs ps
-  -- Into lent room of 5 bytes or more it writes the front part of this list that has room, and says whether it stopped before the end.
+  pub one-listing : (ps rs : List Pair) → Lists b d xs ps → Lists b d xs rs → ps ≡ rs
+  -- Into lent room of 5 bytes or more it writes the front part of this list that has room, and says whether it stopped
+  -- before the end. There is one such part.
   pub completion : (ps fit : List Pair) (room : List ℕ) → Lists b d xs ps → 5 ≤ length room → FittingFront (length room) ps fit
-      → completionOf b q room ≡ completionAnswer 0 (length fit) (ltb (length fit) (length ps)) (listingOf fit ++ drop (roomFor fit) room)
+      → completionOf b q room ≡ record { answer = record { refusal = 0; count = length fit; stopped = ltb (length fit) (length ps) }; room = listingOf fit ++ drop (roomFor fit) room }
   pub some-front : (ps : List Pair) (room : List ℕ) → 5 ≤ length room → (fit : List Pair) × FittingFront (length room) ps fit
+  pub one-front : (ps fit other : List Pair) (room : List ℕ) → FittingFront (length room) ps fit → FittingFront (length room) ps other → fit ≡ other
 
 -- for every image, and every query whose length is a multiple of four
 abbrev pub Demand2 : Type 0

@@ -8,7 +8,7 @@ use mathlib.Core.Bool.{false}
 use lib.ListN.{length, drop}
 use Rattle.lxtr_spec.specs.Labels.{Pair}
 use Rattle.lxtr_spec.specs.Refusals.{checkOf}
-use Rattle.lxtr_spec.specs.Completions.{listingOf, roomFor, completionAnswer, completionOf}
+use Rattle.lxtr_spec.specs.Completions.{listingOf, roomFor, completionOf}
 use Rattle.lxtr_spec.specs.Sets.{PairSet, ImageOf}
 use Rattle.lxtr_spec.specs.Meaning.{Lists}
 
@@ -27,4 +27,4 @@ pub record Demand3 (b : List ℕ) : Type 0 where
   -- Completion of the empty prefix, in room enough for the set, refuses nothing, answers the same number, does not stop,
   -- and writes this list at the room's front: version byte 1, count, then the records. Bytes past the last record stay.
   pub completion : (d : PairSet) (ps : List Pair) (room : List ℕ) → ImageOf b d → Lists b d [] ps → roomFor ps ≤ length room
-      → completionOf b [] room ≡ completionAnswer 0 (length ps) false (listingOf ps ++ drop (roomFor ps) room)
+      → completionOf b [] room ≡ record { answer = record { refusal = 0; count = length ps; stopped = false }; room = listingOf ps ++ drop (roomFor ps) room }

@@ -1,12 +1,8 @@
 -- The proofs of the demands, one idea a file.
--- Facts: what the tests of the check and the searches say.
-pub mod Facts
-pub mod Keys
+-- Codes, counts, and the places of children lists.
 pub mod Codes
-pub mod Steps
-pub mod Refusals
 pub mod Counting
-pub mod Rows
+pub mod Places
 -- Bytes that the check accepts are an image.
 pub mod Lists
 pub mod Kinds

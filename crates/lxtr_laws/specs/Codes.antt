@@ -1,4 +1,4 @@
--- The search for a label's code, as a loop makes it: what is found at all is what is found at the n - i places from i on.
+-- The search for a label's code, as a loop makes it: the code of the label is what the search of the n - i places from i on gives.
 -- Each turn reads the label l at place i.
 use Prim.Native.Nat.{ℕ, suc, _+_, _-_, _≤_, _<_}
 use mathlib.Core.Path.{_≡_, sym, _∙_}
@@ -13,7 +13,7 @@ use Rattle.lxtr_spec.specs.Image.{labelCount, labelAt, codeFrom, codeOf}
 pub more : (n i : ℕ) → i < n → n - i ≡ suc (n - (i + 1))
 more n i h = omega arith
 
-pub no-more : (n i : ℕ) → n ≤ i → n - i ≡ 0
+no-more : (n i : ℕ) → n ≤ i → n - i ≡ 0
 no-more n i h = omega arith
 
 module _ (b : List ℕ) (x n : ℕ) where

@@ -1,65 +1,10 @@
--- Document 01's examples P1 to P11 that are images, as one table: the definitions compute to what stands there.
-use Prim.Native.Nat.{ℕ, _+_, _-_, _*_, _^_}
-use mathlib.Core.Path.{_≡_, refl}
-use mathlib.Core.List.{List, [], _∷_, _++_}
-use mathlib.Core.Option.{Option, some, none}
-use mathlib.Core.Bool.{Bool, true, false}
-use lib.ListN.{length, replicate}
-use Rattle.lxtr_spec.specs.Ranges.{anyBelow, countBelow}
-use Rattle.lxtr_spec.specs.Words.{le32, be32, leBytes, beBytes, leWords, beWords}
-use Rattle.lxtr_spec.specs.Labels.{Pair, isScalar, maxLabels, lengthCount, labelsFrom, labelsOf}
-use Rattle.lxtr_spec.specs.Joining.{slotUnder, codeUnder}
-use Rattle.lxtr_spec.specs.Image.{magic, version, slotCount, childCount, mapLength, baseWord, checkWord, isLeaf, hasLeaf, parent, base, valueNumber, slotFrom, codeTo, offset, child, listWidth, mapVersion, labelCount, labelAt, labelOfCode, codeFrom, codeOf}
-use Rattle.lxtr_spec.specs.Refusals.{refuseIf, firstRefusal, unlessRefused, tooShort, byteDiffers, magicDiffers, versionWrong, reservedSet, sizesWrong, lengthWrong, mapWrong, offsetEndsWrong, headerRefusal, sameLabel, labelWrong, labelsWrong, isUsedFrom2, isUsed, ownCode, bothZero, usedSlotWrong, endExists, flagWrong, slotWrong, slotsWrong, offsetFalls, usedCount, entryWrong, codeNotAbove, entryWrongIn, entriesWrong, childless, rootWrong, listsWrong, reaches, unreachable, someUnreachable, bodyRefusal, imageRefusal, isEnd, endCount, checkOf}
-use Rattle.lxtr_spec.specs.Walks.{step, stepBy, walk, walkWithin, leafValue, valueAt, valueReached, exactAt, longerAt}
-use Rattle.lxtr_spec.specs.Searches.{queryRefusal, searchRefusal, exactValue, exactOf, lengthMatch, matchesFrom, matches, prefixMatches, prefixesAnswer, prefixesOf, lastLength, longestLength, longestOf, probeAnswer, probeAt, probeOf}
-use Rattle.lxtr_spec.specs.Completions.{concatFrom, entryPairs, listFrom, pairsAt, pairsBelow, recordOf, recordsOf, fitting, listingOf, listedIn, completionAnswer, written, completionRefusal, completionOf}
-use Rattle.lxtr_spec.specs.HostNumbers.{refusalPart, longerPart, valuePart, exactNumber, probeNumber, checkNumber, longestNumber}
-use Rattle.lxtr_spec.specs.Samples.{imageBytes, p1, p2, nodes3, offsets3, children3, labels3, p3, p7, p8-check, p8-slot, p9-labels, p9-longer, p10, p11}
-
--- what is run, and what it gives; a query is given by its labels
-pub data Example : Type 0 where
-  -- an image and its length in bytes
-  image-length : List ℕ → ℕ → Example
-  -- an accepted image, the number of its pairs
-  accepted : List ℕ → ℕ → Example
-  -- a refused image, its refusal
-  refused : List ℕ → ℕ → Example
-  -- image, query, value, number for the host program
-  exact : List ℕ → List ℕ → Option ℕ → ℕ → Example
-  -- image, query, lengths and values of the matches
-  prefixes : List ℕ → List ℕ → List ℕ → List ℕ → Example
-  -- image, query, the matched part
-  longest : List ℕ → List ℕ → List ℕ → Example
-  -- image, query, value, whether longer keys exist, number for the host program
-  probe : List ℕ → List ℕ → Option ℕ → Bool → ℕ → Example
-  -- image, prefix, pairs, bytes written
-  completes : List ℕ → List ℕ → List Pair → List ℕ → Example
-
--- n bytes that no listing leaves by chance
-abbrev unwritten : ℕ → List ℕ
-unwritten n = replicate n 0xFF
-
--- what an example says, for the answer, the number for the host program and the room
-abbrev pub Holds : Example → Type 0
-Holds (image-length b n) = length b ≡ n
-Holds (accepted b n) = (checkOf b ≡ record { refusal = 0; pairs = n }) × (checkNumber b ≡ n)
-Holds (refused b k) =
-    (checkOf b ≡ record { refusal = k; pairs = 0 }) × (checkNumber b ≡ k * 2 ^ 40)
-    × (completionOf b [] (unwritten 64) ≡ completionAnswer k 0 false (unwritten 64))
-Holds (exact b xs v n) = (exactOf b (beWords xs) ≡ record { refusal = 0; value = v }) × (exactNumber b (beWords xs) ≡ n)
-Holds (prefixes b xs lengths values) =
-    prefixesOf b (beWords xs) ≡ record { refusal = 0; count = length lengths; lengths = lengths ++ replicate (lengthCount - length lengths) 0; values = values ++ replicate (lengthCount - length values) 0 }
-Holds (longest b xs ys) = (longestOf b (beWords xs) ≡ record { refusal = 0; part = beWords ys }) × (longestNumber b (beWords xs) ≡ length ys)
-Holds (probe b xs v longer n) =
-    (probeOf b (beWords xs) ≡ record { refusal = 0; value = v; longer = longer }) × (probeNumber b (beWords xs) ≡ n)
-Holds (completes b xs ps bytes) =
-    (pairsBelow b xs ≡ ps)
-    × (completionOf b (beWords xs) (unwritten (length bytes + 2)) ≡ completionAnswer 0 (length ps) false (bytes ++ unwritten 2))
-
-abbrev pub AllHold : List Example → Type 0
-AllHold [] = Unit {0}
-AllHold (e ∷ es) = Holds e × AllHold es
+-- Document 01's examples P1 to P11, as far as they are images, as one table: the definitions compute to what stands there.
+use mathlib.Core.Path.{refl}
+use mathlib.Core.List.{List, [], _∷_}
+use mathlib.Core.Option.{some, none}
+use mathlib.Core.Bool.{true, false}
+use Rattle.lxtr_spec.specs.Samples.{p1, p2, p3, p7, p8-check, p8-slot, p9-labels, p9-longer, p10, p11}
+use Rattle.lxtr_laws.specs.ExampleRows.{Example, image-length, accepted, refused, exact, prefixes, longest, probe, completes, AllHold, _and_, computing}
 
 unfoldable pub examples : List Example
 examples =
@@ -90,11 +35,16 @@ examples =
     (1 ∷ 0 ∷ 0 ∷ 0 ∷ 3 ∷ 1 ∷ 0 ∷ 0 ∷ 0 ∷ 0x62 ∷ 0 ∷ 0 ∷ 0 ∷ 1 ∷ 2 ∷ 0 ∷ 0 ∷ 0 ∷ 0x62 ∷ 0 ∷ 0 ∷ 0 ∷ 0x62 ∷ 0 ∷ 0 ∷ 0 ∷ 2 ∷ 1 ∷ 0 ∷ 0 ∷ 0 ∷ 0x61 ∷ 0 ∷ 0 ∷ 0 ∷ 0 ∷ [])
     ∷ []
 
--- every definition that an example runs: to unfold this name is to unfold them all
-unfoldable pub computing : Unit {0}
-unfolding anyBelow countBelow le32 be32 leBytes beBytes leWords beWords isScalar maxLabels labelsFrom labelsOf slotUnder codeUnder magic version slotCount childCount mapLength baseWord checkWord isLeaf hasLeaf parent base valueNumber slotFrom codeTo offset child listWidth mapVersion labelCount labelAt labelOfCode codeFrom codeOf refuseIf firstRefusal unlessRefused tooShort byteDiffers magicDiffers versionWrong reservedSet sizesWrong lengthWrong mapWrong offsetEndsWrong headerRefusal sameLabel labelWrong labelsWrong isUsedFrom2 isUsed ownCode bothZero usedSlotWrong endExists flagWrong slotWrong slotsWrong offsetFalls usedCount entryWrong codeNotAbove entryWrongIn entriesWrong childless rootWrong listsWrong reaches unreachable someUnreachable bodyRefusal imageRefusal isEnd endCount checkOf step stepBy walk walkWithin leafValue valueAt valueReached exactAt longerAt queryRefusal searchRefusal exactValue exactOf lengthMatch matchesFrom matches prefixMatches prefixesAnswer prefixesOf lastLength longestLength longestOf probeAnswer probeAt probeOf concatFrom entryPairs listFrom pairsAt pairsBelow recordOf recordsOf fitting listingOf listedIn completionAnswer written completionRefusal completionOf refusalPart longerPart valuePart exactNumber probeNumber checkNumber longestNumber imageBytes p1 p2 nodes3 offsets3 children3 labels3 p3 p7 p8-check p8-slot p9-labels p9-longer p10 p11
-computing = tt
-
 pub examples-hold : AllHold examples
 unfolding examples computing
-examples-hold = (refl, ((refl, refl), ((refl, refl), (refl, ((refl, refl), ((refl, refl), (refl, ((refl, refl), ((refl, refl), ((refl, refl), ((refl, refl), ((refl, refl), ((refl, refl), (refl, (refl, ((refl, refl), ((refl, refl), ((refl, refl), ((refl, refl), ((refl, refl), ((refl, refl, refl), ((refl, refl), ((refl, refl, refl), ((refl, refl, refl), ((refl, refl, refl), ((refl, refl, refl), ((refl, refl, refl), ((refl, refl), ((refl, refl), tt)))))))))))))))))))))))))))))
+examples-hold =
+    refl and (refl, refl) and (refl, refl)
+    and refl and (refl, refl) and (refl, refl)
+    and refl and (refl, refl) and (refl, refl)
+    and (refl, refl) and (refl, refl) and (refl, refl) and (refl, refl)
+    and refl and refl and (refl, refl)
+    and (refl, refl) and (refl, refl) and (refl, refl) and (refl, refl)
+    and (refl, refl, refl) and (refl, refl)
+    and (refl, refl, refl) and (refl, refl, refl) and (refl, refl, refl) and (refl, refl, refl) and (refl, refl, refl)
+    and (refl, refl) and (refl, refl)
+    and tt

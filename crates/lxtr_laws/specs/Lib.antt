@@ -6,4 +6,12 @@ pub mod Joining
 pub mod Order
 pub mod Passed
 pub mod Codes
+pub mod Lists
+pub mod Lengths
+pub mod Facts
+pub mod Keys
+pub mod Steps
+pub mod Faults
+pub mod ExampleRows
 pub mod Examples
+pub mod Readings

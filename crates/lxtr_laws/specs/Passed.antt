@@ -48,7 +48,7 @@ module _ {b : List ℕ} where
       let q = simp tests at f in
       record { whole = w; labels = p .0 .1; map-size = p .1; first = q .0; last = q .1 }
 
-  -- the first two for a test's result r, as `search` takes them from the code
+  -- the first two for a test's result r, as the code has it
   pub sized-by : (r : Bool) → headerLength ≤ length b → r ≡ sizesWrong b → r ≡ false → Sized b
   sized-by r h e f = sized h (outcome r _ _ e f)
 

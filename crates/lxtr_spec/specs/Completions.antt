@@ -5,6 +5,7 @@ use mathlib.Core.Option.{Option, some, none}
 use mathlib.Core.Bool.{Bool, true, false, cond}
 use lib.ListN.{length, drop}
 use lib.Dec.{leb, ltb}
+use Rattle.lxtr_spec.specs.Ranges.{concatFrom}
 use Rattle.lxtr_spec.specs.Words.{beBytes, beWords}
 use Rattle.lxtr_spec.specs.Labels.{lengthCount, labelsOf, Pair}
 use Rattle.lxtr_spec.specs.Image.{isLeaf, valueNumber, codeTo, offset, child, listWidth, labelOfCode}
@@ -14,11 +15,6 @@ use Rattle.lxtr_spec.specs.Searches.{searchRefusal}
 use Rattle.lxtr_spec.specs.declared.Completion.{Completion}
 
 -- Depth first, children by ascending code, so an end precedes its longer keys.
-
--- what entries j, j + 1, .., of which there are w, give one after the other
-unfoldable pub concatFrom : ℕ → ℕ → (ℕ → List Pair) → List Pair
-concatFrom zero j f = []
-concatFrom (suc w) j f = f j ++ concatFrom w (j + 1) f
 
 -- what entry j of the list of slot n, which the labels key reach, gives: an end its pair, any other child the pairs below it
 unfoldable pub entryPairs : List ℕ → (ℕ → List ℕ → List Pair) → ℕ → List ℕ → ℕ → List Pair

@@ -11,15 +11,18 @@ use Rattle.lxtr_spec.specs.Image.{codeOf}
 use Rattle.lxtr_spec.specs.Completions.{roomFor}
 use Rattle.lxtr_spec.specs.Sets.{PairSet, Has}
 
--- each length is below the next one
-unfoldable pub Rising : List (ℕ × ℕ) → Type 0
-Rising [] = Unit {0}
-Rising (m ∷ []) = Unit {0}
-Rising (m ∷ n ∷ ms) = (m .0 < n .0) × Rising (n ∷ ms)
+-- each member comes before the next one, by the order R
+unfoldable pub Ordered : {A : Type 0} → (A → A → Type 0) → List A → Type 0
+Ordered R [] = Unit {0}
+Ordered R (x ∷ []) = Unit {0}
+Ordered R (x ∷ y ∷ l) = R x y × Ordered R (y ∷ l)
+
+abbrev pub Shorter : ℕ × ℕ → ℕ × ℕ → Type 0
+Shorter m n = m .0 < n .0
 
 -- Prefixes: ms are length and value of the prefixes of the labels that are keys, shortest first, and none besides.
 pub record PrefixesIn (d : PairSet) (xs : List ℕ) (ms : List (ℕ × ℕ)) : Type 0 where
-  pub rising : Rising ms
+  pub rising : Ordered Shorter ms
   pub all : (p r : List ℕ) (v : ℕ) → xs ≡ p ++ r → Has d p v → List·Memᴰ (length p, v) ms
   pub only : (n v : ℕ) → List·Memᴰ (n, v) ms → (p : List ℕ) × (r : List ℕ) × (xs ≡ p ++ r) × (length p ≡ n) × Has d p v
 
@@ -42,15 +45,12 @@ labelCode b x = Option·getD (codeOf b x) 0
 unfoldable pub beforeByCode : List ℕ → List ℕ → List ℕ → Bool
 beforeByCode b k l = comesBefore (map (labelCode b) k) (map (labelCode b) l)
 
--- each pair's key comes before the next one's
-unfoldable pub InCodeOrder : List ℕ → List Pair → Type 0
-InCodeOrder b [] = Unit {0}
-InCodeOrder b (p ∷ []) = Unit {0}
-InCodeOrder b (p ∷ r ∷ ps) = (beforeByCode b (p .0) (r .0) ≡ true) × InCodeOrder b (r ∷ ps)
+abbrev pub CodeBefore : List ℕ → Pair → Pair → Type 0
+CodeBefore b p r = beforeByCode b (p .0) (r .0) ≡ true
 
 -- Completions: ps are the pairs of the set whose keys begin with the labels, in code order, and none besides.
 pub record Lists (b : List ℕ) (d : PairSet) (xs : List ℕ) (ps : List Pair) : Type 0 where
-  pub ordered : InCodeOrder b ps
+  pub ordered : Ordered (CodeBefore b) ps
   pub all : (r : List ℕ) (v : ℕ) → Has d (xs ++ r) v → List·Memᴰ (xs ++ r, v) ps
   pub only : (k : List ℕ) (v : ℕ) → List·Memᴰ (k, v) ps → (r : List ℕ) × (k ≡ xs ++ r) × Has d k v
 

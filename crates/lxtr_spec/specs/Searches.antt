@@ -1,13 +1,14 @@
 -- Document 01, "The searches": exact, prefixes, longest and probe, for all bytes.
-use Prim.Native.Nat.{ℕ, zero, suc, _+_, _*_, _-_, _%_}
+use Prim.Native.Nat.{ℕ, _+_, _*_, _-_, _%_}
 use mathlib.Core.List.{List, [], _∷_, _++_, map}
 use mathlib.Core.Option.{Option, some, none}
 use mathlib.Core.Bool.{Bool, false, not}
 use lib.ListN.{length, take, replicate}
 use lib.Dec.{eqb}
+use Rattle.lxtr_spec.specs.Ranges.{concatFrom}
 use Rattle.lxtr_spec.specs.Labels.{maxLabels, lengthCount, labelsOf}
 use Rattle.lxtr_spec.specs.Refusals.{refuseIf, firstRefusal, unlessRefused, headerRefusal}
-use Rattle.lxtr_spec.specs.Walks.{walkWithin, valueAt, valueReached, exactAt, longerAt}
+use Rattle.lxtr_spec.specs.Walks.{walkWithin, valueAt, valueReached, valueOf, longerAt}
 use Rattle.lxtr_spec.specs.declared.Prefixes.{Prefixes}
 
 -- All first test 1 to 8, then give 13 if the query length is no multiple of four.
@@ -30,21 +31,20 @@ exactOf b q =
     let value = exactValue b (labelsOf q) in
     record { refusal = searchRefusal b q; value = unlessRefused (searchRefusal b q) value none }
 
--- Prefixes: length and value of each prefix of xs to which f gives a value, shortest first: of those of the n lengths from k on, and of all
+-- Prefixes: length and value of each prefix of xs to which f gives a value, shortest first; matchAt is what length k gives.
 unfoldable pub lengthMatch : ℕ → Option ℕ → List (ℕ × ℕ)
 lengthMatch k none = []
 lengthMatch k (some v) = (k, v) ∷ []
 
-unfoldable pub matchesFrom : (List ℕ → Option ℕ) → List ℕ → ℕ → ℕ → List (ℕ × ℕ)
-matchesFrom f xs zero k = []
-matchesFrom f xs (suc n) k = lengthMatch k (f (take k xs)) ++ matchesFrom f xs n (k + 1)
+unfoldable pub matchAt : (List ℕ → Option ℕ) → List ℕ → ℕ → List (ℕ × ℕ)
+matchAt f xs k = lengthMatch k (f (take k xs))
 
 unfoldable pub matches : (List ℕ → Option ℕ) → List ℕ → List (ℕ × ℕ)
-matches f xs = matchesFrom f xs (length xs + 1) 0
+matches f xs = concatFrom (length xs + 1) 0 (matchAt f xs)
 
 -- Only the first 64 query labels count.
 unfoldable pub prefixMatches : List ℕ → List ℕ → List (ℕ × ℕ)
-prefixMatches b q = matches (exactAt b) (take maxLabels (labelsOf q))
+prefixMatches b q = matches (valueOf b) (take maxLabels (labelsOf q))
 
 -- a count and 65 places, one for each possible length from 0 to 64; unused places zero
 abbrev pub padded : List ℕ → List ℕ

@@ -38,8 +38,8 @@ valueReached b none = none
 valueReached b (some n) = valueAt b n
 
 -- the value of these labels, however many they are
-unfoldable pub exactAt : List ℕ → List ℕ → Option ℕ
-exactAt b xs = valueReached b (walk b 1 xs)
+unfoldable pub valueOf : List ℕ → List ℕ → Option ℕ
+valueOf b xs = valueReached b (walk b 1 xs)
 
 -- whether longer keys exist: the width of the slot's children list is above 1 with HAS_LEAF set, above 0 without. A falling offset pair has width 0.
 unfoldable pub longerAt : List ℕ → ℕ → Bool

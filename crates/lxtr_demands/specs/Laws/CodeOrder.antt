@@ -3,14 +3,14 @@
 use Prim.Native.Nat.{ℕ, _<_}
 use native.Mathlib.Nat.{not-suc-le-zero}
 use mathlib.Core.Path.{_≡_, refl, sym, subst}
-use mathlib.Core.Logic.{_↔_, inl}
+use mathlib.Core.Logic.{inl}
 use mathlib.Core.List.{List, [], _∷_, _++_, map, map-append, List·Memᴰ}
 use mathlib.Core.Bool.{true}
 use Rattle.lxtr_spec.specs.Labels.{comesBefore, Pair}
 use Rattle.lxtr_spec.specs.Sets.{PairSet, Has}
-use Rattle.lxtr_spec.specs.Meaning.{labelCode, beforeByCode, InCodeOrder, Lists}
+use Rattle.lxtr_spec.specs.Meaning.{labelCode, beforeByCode, CodeBefore, Lists}
 use Rattle.lxtr_laws.specs.Order.{first-or-rest, before-common, before-self, before-trans}
-use Rattle.lxtr_demands.specs.Laws.Sorted.{Within, Adjacent, one-list}
+use Rattle.lxtr_demands.specs.Laws.Sorted.{Within, one-list}
 
 -- the code of a list's first label; 0, the code of an end, if it has none
 unfoldable pub headCode : List ℕ → List ℕ → ℕ
@@ -18,15 +18,11 @@ headCode b [] = 0
 headCode b (x ∷ s) = labelCode b x
 
 module _ (b : List ℕ) where
-  -- the key of p comes before that of r
-  abbrev pub CodeBefore : Pair → Pair → Type 0
-  CodeBefore p r = beforeByCode b (p .0) (r .0) ≡ true
-
-  pub code-self : (p : Pair) → CodeBefore p p → ⊥
+  pub code-self : (p : Pair) → CodeBefore b p p → ⊥
   unfolding beforeByCode
   code-self p = before-self (map (labelCode b) (p .0))
 
-  pub code-trans : (p q r : Pair) → CodeBefore p q → CodeBefore q r → CodeBefore p r
+  pub code-trans : (p q r : Pair) → CodeBefore b p q → CodeBefore b q r → CodeBefore b p r
   unfolding beforeByCode
   code-trans p q r = before-trans (map (labelCode b) (p .0)) (map (labelCode b) (q .0)) (map (labelCode b) (r .0))
 
@@ -40,14 +36,8 @@ module _ (b : List ℕ) where
       go [] (y ∷ w) h = refl
       go (x ∷ u) (y ∷ w) h = first-or-rest (labelCode b x) (labelCode b y) (map (labelCode b) u) (map (labelCode b) w) .1 (inl h)
 
-  pub code-adjacent : (ps : List Pair) → InCodeOrder b ps ↔ Adjacent CodeBefore ps
-  unfolding InCodeOrder Adjacent
-  code-adjacent [] = (λ o. o, λ o. o)
-  code-adjacent (p ∷ []) = (λ o. o, λ o. o)
-  code-adjacent (p ∷ r ∷ ps) = let rest = code-adjacent (r ∷ ps) in (λ o. (o .0, rest .0 (o .1)), λ o. (o .0, rest .1 (o .1)))
-
   pub one-listing : (d : PairSet) (xs : List ℕ) (ps rs : List Pair) → Lists b d xs ps → Lists b d xs rs → ps ≡ rs
-  one-listing d xs ps rs l m = one-list CodeBefore code-trans code-self ps rs (code-adjacent ps .0 (l .ordered)) (code-adjacent rs .0 (m .ordered)) (over ps rs l m) (over rs ps m l)
+  one-listing d xs ps rs l m = one-list (CodeBefore b) code-trans code-self ps rs (l .ordered) (m .ordered) (over ps rs l m) (over rs ps m l)
     where
       over : (ps rs : List Pair) → Lists b d xs ps → Lists b d xs rs → Within ps rs
       over ps rs l m x n =

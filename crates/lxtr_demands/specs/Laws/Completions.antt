@@ -14,17 +14,18 @@ use Rattle.lxtr_spec.specs.Refusals.{refuseIf, firstRefusal, unlessRefused}
 use Rattle.lxtr_spec.specs.Searches.{queryRefusal, searchRefusal}
 use Rattle.lxtr_spec.specs.Completions.{pairsAt, pairsBelow, fitting, listingOf, listedIn, roomFor, completionAnswer, written, completionRefusal, completionOf}
 use Rattle.lxtr_spec.specs.Sets.{PairSet, ImageOf}
-use Rattle.lxtr_spec.specs.Meaning.{InCodeOrder, Lists, FittingFront}
-use Rattle.lxtr_demands.specs.Laws.Refusals.{parts-pass}
+use Rattle.lxtr_spec.specs.Meaning.{Ordered, Lists, FittingFront}
+use Rattle.lxtr_laws.specs.Faults.{parts-pass}
 use Rattle.lxtr_demands.specs.Laws.Kinds.{KnownImage}
 use Rattle.lxtr_demands.specs.Laws.Images.{image-passes, known-image}
 use Rattle.lxtr_demands.specs.Laws.CodeOrder.{one-listing}
 use Rattle.lxtr_demands.specs.Laws.Listings.{listing}
-use Rattle.lxtr_demands.specs.Laws.Rooms.{listing-length, fitting-is}
+use Rattle.lxtr_laws.specs.Lengths.{listing-length}
+use Rattle.lxtr_demands.specs.Laws.Rooms.{fitting-is}
 use Rattle.lxtr_demands.specs.Laws.Queries.{Leads, to-slot, nowhere, leads}
 
 pub pairs-listed : {b : List ℕ} {d : PairSet} (known : KnownImage b d) (xs : List ℕ) → Lists b d xs (pairsBelow b xs)
-unfolding pairsBelow pairsAt InCodeOrder
+unfolding pairsBelow pairsAt Ordered
 pairs-listed {b} {d} known xs = go (leads known xs)
   where
     go : {o : Option ℕ} → Leads d (known .image .slot) xs o → Lists b d xs (pairsAt b xs o)
@@ -47,8 +48,8 @@ module _ {b : List ℕ} {d : PairSet} (image : ImageOf b d) where
 
     -- the front part of the pairs that has room
     pub completes : (room : List ℕ) (ps fit : List Pair) → 5 ≤ length room → Lists b d (labelsOf q) ps → FittingFront (length room) ps fit
-        → completionOf b q room ≡ completionAnswer 0 (length fit) (ltb (length fit) (length ps)) (listingOf fit ++ drop (roomFor fit) room)
-    unfolding completionOf unlessRefused written listedIn
+        → completionOf b q room ≡ record { answer = record { refusal = 0; count = length fit; stopped = ltb (length fit) (length ps) }; room = listingOf fit ++ drop (roomFor fit) room }
+    unfolding completionOf completionAnswer unlessRefused written listedIn
     completes room ps fit h l f =
         let same : pairsBelow b (labelsOf q) ≡ ps = one-listing b d (labelsOf q) (pairsBelow b (labelsOf q)) ps (pairs-listed (known-image image) (labelsOf q)) l in
         let all : 5 + (length room - 5) ≡ length room = omega arith in

@@ -12,15 +12,15 @@ use Rattle.lxtr_spec.specs.Labels.{Pair}
 use Rattle.lxtr_spec.specs.Image.{slotCount, isLeaf}
 use Rattle.lxtr_spec.specs.Refusals.{isEnd, endCount}
 use Rattle.lxtr_spec.specs.Sets.{PairSet, Has}
-use Rattle.lxtr_spec.specs.Meaning.{Lists}
-use Rattle.lxtr_demands.specs.Laws.Facts.{UsedFrom2}
-use Rattle.lxtr_demands.specs.Laws.Refusals.{end-is}
+use Rattle.lxtr_spec.specs.Meaning.{CodeBefore, Lists}
+use Rattle.lxtr_laws.specs.Facts.{UsedFrom2}
+use Rattle.lxtr_laws.specs.Faults.{end-is}
 use Rattle.lxtr_demands.specs.Laws.Counting.{count-of}
-use Rattle.lxtr_demands.specs.Laws.Keys.{prefix-key}
+use Rattle.lxtr_laws.specs.Keys.{prefix-key}
 use Rattle.lxtr_demands.specs.Laws.Kinds.{KindIn, root, inner, leaf, unused, unused-parent, KnownImage}
 use Rattle.lxtr_demands.specs.Laws.Slots.{prefix-slot}
 use Rattle.lxtr_demands.specs.Laws.Sorted.{Sorted, adjacent-sorted}
-use Rattle.lxtr_demands.specs.Laws.CodeOrder.{CodeBefore, code-self, code-trans, code-adjacent}
+use Rattle.lxtr_demands.specs.Laws.CodeOrder.{code-self, code-trans}
 
 -- the pair at place i
 abbrev pairAt : List Pair → ℕ → Pair
@@ -77,7 +77,7 @@ module _ {b : List ℕ} {d : PairSet} (known : KnownImage b d) where
     lands = λ i h. end-counted (pairAt ps i .0) (pairAt ps i .1) (is-key i h);
     injective = λ i j h k e.
         let same = image .placed .ends-differ (pairAt ps i .0) (pairAt ps j .0) (pairAt ps i .1) (pairAt ps j .1) (is-key i h) (is-key j k) e in
-        keys-once b ps (adjacent-sorted (CodeBefore b) (code-trans b) ps (code-adjacent b ps .0 (l .ordered))) i j h k same;
+        keys-once b ps (adjacent-sorted (CodeBefore b) (code-trans b) ps (l .ordered)) i j h k same;
     surjective = λ s h e.
         let u = end-is b s .0 e in
         let c = counted-end (kinds s h) (u .0) (u .1) in

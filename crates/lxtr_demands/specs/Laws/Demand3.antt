@@ -9,19 +9,20 @@ use native.Mathlib.Nat.{le-refl}
 use borrow.Author.Tests.{le-ltb}
 use Rattle.lxtr_spec.specs.Labels.{labelsOf, labelsFrom}
 use Rattle.lxtr_spec.specs.Refusals.{unlessRefused, checkOf}
-use Rattle.lxtr_spec.specs.Walks.{exactAt}
+use Rattle.lxtr_spec.specs.Walks.{valueOf}
 use Rattle.lxtr_spec.specs.Completions.{pairsBelow}
 use Rattle.lxtr_demands.specs.Demand3.{Demand3}
 use Rattle.lxtr_demands.specs.Laws.Images.{image-passes, image-set, known-image, passed-image}
 use Rattle.lxtr_demands.specs.Laws.CodeOrder.{one-listing}
 use Rattle.lxtr_demands.specs.Laws.Counts.{pairs-counted}
-use Rattle.lxtr_demands.specs.Laws.Rooms.{room-from, whole-front}
+use Rattle.lxtr_laws.specs.Lengths.{room-from}
+use Rattle.lxtr_demands.specs.Laws.Rooms.{whole-front}
 use Rattle.lxtr_demands.specs.Laws.Completions.{pairs-listed, completes}
 
 pub demand3 : (b : List ℕ) → Demand3 b
 unfolding checkOf unlessRefused labelsOf labelsFrom
 demand3 b = record {
-  passes = (λ e. (exactAt b, passed-image b e), λ i. image-passes (i .1));
+  passes = (λ e. (valueOf b, passed-image b e), λ i. image-passes (i .1));
   one-set = λ d e i j. image-set i ∙ sym (image-set j);
   listing = λ d i. (pairsBelow b [], pairs-listed (known-image i) []);
   one-listing = λ d ps rs. one-listing b d [] ps rs;

@@ -10,12 +10,12 @@ use mathlib.Core.List.{List}
 use mathlib.Core.Option.{discrete}
 use Rattle.lxtr_spec.specs.Image.{slotCount}
 use Rattle.lxtr_spec.specs.Refusals.{imageRefusal}
-use Rattle.lxtr_spec.specs.Walks.{exactAt}
+use Rattle.lxtr_spec.specs.Walks.{valueOf}
 use Rattle.lxtr_spec.specs.Sets.{PairSet, Prefix, ImageOf}
 use Rattle.lxtr_laws.specs.Ranges.{below-suc}
-use Rattle.lxtr_demands.specs.Laws.Facts.{Accepted}
-use Rattle.lxtr_demands.specs.Laws.Refusals.{accepted}
-use Rattle.lxtr_demands.specs.Laws.Keys.{Last, empty, snoc, last}
+use Rattle.lxtr_laws.specs.Facts.{Accepted}
+use Rattle.lxtr_laws.specs.Faults.{accepted}
+use Rattle.lxtr_laws.specs.Keys.{Last, empty, snoc, last}
 use Rattle.lxtr_demands.specs.Laws.Kinds.{KindIn, root, inner, leaf, unused, KnownImage}
 use Rattle.lxtr_demands.specs.Laws.Slots.{set-is}
 use Rattle.lxtr_demands.specs.Laws.SlotsPass.{slot-right}
@@ -55,13 +55,13 @@ module _ {b : List ℕ} {d : PairSet} (image : ImageOf b d) where
   pub image-passes : imageRefusal b ≡ 0
   image-passes = Dec·not-not (ℕ-discrete (imageRefusal b) 0) .0 (λ n. not-unknown (λ known. n (accepted b .1 (complete known))))
 
-  pub image-set : d ≡ exactAt b
-  image-set = fun-ext (λ k. Dec·not-not (discrete ℕ-discrete (d k) (exactAt b k)) .0 (λ n. not-unknown (λ known. n (set-is known k))))
+  pub image-set : d ≡ valueOf b
+  image-set = fun-ext (λ k. Dec·not-not (discrete ℕ-discrete (d k) (valueOf b k)) .0 (λ n. not-unknown (λ known. n (set-is known k))))
 
   -- so what each slot is can be told
   pub known-image : KnownImage b d
   known-image = rw image-set (sound (accepted b .0 image-passes))
 
 -- the other way: what passes is an image
-pub passed-image : (b : List ℕ) → imageRefusal b ≡ 0 → ImageOf b (exactAt b)
+pub passed-image : (b : List ℕ) → imageRefusal b ≡ 0 → ImageOf b (valueOf b)
 passed-image b e = sound (accepted b .0 e) .image

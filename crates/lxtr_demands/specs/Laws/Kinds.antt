@@ -6,7 +6,7 @@ use mathlib.Core.List.{List, [], _∷_, _++_}
 use mathlib.Core.Bool.{false}
 use Rattle.lxtr_spec.specs.Image.{slotCount, isLeaf, hasLeaf, parent, base}
 use Rattle.lxtr_spec.specs.Sets.{PairSet, Has, Prefix, ImageOf}
-use Rattle.lxtr_demands.specs.Laws.Facts.{ZeroWords}
+use Rattle.lxtr_laws.specs.Facts.{ZeroWords}
 
 pub data Kind (b : List ℕ) (d : PairSet) (slot end : List ℕ → ℕ) : ℕ → Type 0 where
   root : Kind b d slot end 1

@@ -7,30 +7,27 @@ use mathlib.Core.Path.{_≡_, refl, sym, ap, _∙_, subst}
 use mathlib.Core.Logic.{inr}
 use mathlib.Core.List.{List, [], _∷_, _++_, append-nil, List·Memᴰ, List·Memᴰ·head, List·Memᴰ·not-nil, List·Memᴰ·eq-of-singleton}
 use lib.ListN.{length, length-append}
+use Rattle.lxtr_spec.specs.Ranges.{concatFrom}
 use Rattle.lxtr_spec.specs.Labels.{maxLabels, Pair}
 use Rattle.lxtr_spec.specs.Image.{codeTo, offset, child, listWidth}
-use Rattle.lxtr_spec.specs.Completions.{concatFrom, entryPairs, listFrom}
+use Rattle.lxtr_spec.specs.Completions.{entryPairs, listFrom}
 use Rattle.lxtr_spec.specs.Sets.{PairSet, Has, Prefix, InList}
-use Rattle.lxtr_spec.specs.Meaning.{Lists}
-use Rattle.lxtr_demands.specs.Laws.Keys.{snoc-cons}
-use Rattle.lxtr_demands.specs.Laws.Rows.{rows-of, code-rises, in-list}
+use Rattle.lxtr_spec.specs.Meaning.{CodeBefore, Lists}
+use Rattle.lxtr_laws.specs.Keys.{snoc-cons}
+use Rattle.lxtr_laws.specs.Lists.{in-list}
+use Rattle.lxtr_demands.specs.Laws.Places.{lists-sorted, code-rises}
 use Rattle.lxtr_demands.specs.Laws.Kinds.{KnownImage}
 use Rattle.lxtr_demands.specs.Laws.Slots.{prefix-slot, ChildIn, longer, ended}
 use Rattle.lxtr_demands.specs.Laws.Sorted.{Sorted, sorted-one, sorted-adjacent}
-use Rattle.lxtr_demands.specs.Laws.Runs.{run, run-in, run-from, run-sorted}
-use Rattle.lxtr_demands.specs.Laws.CodeOrder.{headCode, CodeBefore, before-code, code-adjacent}
+use Rattle.lxtr_demands.specs.Laws.Runs.{run-in, run-from, run-sorted}
+use Rattle.lxtr_demands.specs.Laws.CodeOrder.{headCode, before-code}
 use Rattle.lxtr_demands.specs.Laws.Entries.{ended-code, ended-pairs, longer-code, longer-pairs, entry-is, ended-place, longer-place}
-
-as-run : (w j : ℕ) (f : ℕ → List Pair) → concatFrom w j f ≡ run w j f
-unfolding concatFrom run
-as-run zero j f = refl
-as-run (suc w) j f = ap (λ (t : List Pair). f j ++ t) (as-run w (j + 1) f)
 
 -- the pairs below a slot, as a run over the places of its list
 module _ (b : List ℕ) (k n : ℕ) (key : List ℕ) where
-  list-run : listFrom b (suc k) n key ≡ run (listWidth b n) (offset b n) (entryPairs b (listFrom b k) n key)
+  list-run : listFrom b (suc k) n key ≡ concatFrom (listWidth b n) (offset b n) (entryPairs b (listFrom b k) n key)
   unfolding listFrom
-  list-run = as-run (listWidth b n) (offset b n) (entryPairs b (listFrom b k) n key)
+  list-run = refl
 
   at-place : (j : ℕ) (r : Pair) → InList b n j → List·Memᴰ r (entryPairs b (listFrom b k) n key j) → List·Memᴰ r (listFrom b (suc k) n key)
   at-place j r i m = let l = in-list b n j .0 i in rw list-run (run-in (entryPairs b (listFrom b k) n key) (listWidth b n) (offset b n) j r (l .0) (l .1) m)
@@ -41,7 +38,7 @@ module _ (b : List ℕ) (k n : ℕ) (key : List ℕ) where
       (q .0, in-list b n (q .0) .1 (q .1, q .2), q .3)
 
 module _ {b : List ℕ} {d : PairSet} (known : KnownImage b d) where
-  open KnownImage known using (image, kinds)
+  open KnownImage known using (image)
 
   -- every pair is listed
   all-listed : (k : ℕ) (p r : List ℕ) (v : ℕ) → Has d (p ++ r) v → length r < k → List·Memᴰ (p ++ r, v) (listFrom b k (image .slot p) p)
@@ -120,11 +117,11 @@ module _ {b : List ℕ} {d : PairSet} (known : KnownImage b d) where
           let e = given k p f j r w (λ o g. only-listed k o g r) z in
           let s = prefix-slot image p f in
           rw (c .begins .key, e .begins .key)
-          (before-code b p (c .begins .rest) (e .begins .rest) (rw (c .code, e .code) (code-rises (rows-of (image .lists)) n (s .from) (s .to) i j v w h)))
+          (before-code b p (c .begins .rest) (e .begins .rest) (rw (c .code, e .code) (code-rises (lists-sorted (image .lists)) n (s .from) (s .to) i j v w h)))
 
   pub listing : (xs : List ℕ) → Prefix d xs → (k : ℕ) → maxLabels < length xs + k → Lists b d xs (listFrom b k (image .slot xs) xs)
   listing xs f k h = record {
-    ordered = code-adjacent b (listFrom b k (image .slot xs) xs) .1 (sorted-adjacent (CodeBefore b) (listFrom b k (image .slot xs) xs) (sorted k xs f));
+    ordered = sorted-adjacent (CodeBefore b) (listFrom b k (image .slot xs) xs) (sorted k xs f);
     all = λ r v e. all-listed k xs r v e (omega (arith, image .keys .key-length (xs ++ r) v e, length-append xs r));
     only = λ l v m. let g = only-listed k xs f (l, v) m in (g .rest, g .key, g .has);
   }

@@ -14,13 +14,13 @@ use Rattle.lxtr_spec.specs.Image.{slotCount, childCount, parent, offset, child}
 use Rattle.lxtr_spec.specs.Refusals.{isUsedFrom2, usedCount}
 use Rattle.lxtr_spec.specs.Sets.{ListsFit}
 use Rattle.lxtr_laws.specs.Ranges.{any-true}
-use Rattle.lxtr_demands.specs.Laws.Facts.{UsedFrom2, Used, EntryRight, Accepted}
-use Rattle.lxtr_demands.specs.Laws.Refusals.{used-from-2}
+use Rattle.lxtr_laws.specs.Facts.{UsedFrom2, Used, EntryRight, Accepted}
+use Rattle.lxtr_laws.specs.Faults.{used-from-2}
 use Rattle.lxtr_demands.specs.Laws.Counting.{count-of, count-filled}
-use Rattle.lxtr_demands.specs.Laws.Rows.{Rows, owner, children-differ}
+use Rattle.lxtr_demands.specs.Laws.Places.{ListsSorted, list-of-place, children-differ}
 
 -- an entry has a parent
-pub entry-used : {b : List ℕ} {p j : ℕ} → EntryRight b p j → UsedFrom2 b (child b j)
+entry-used : {b : List ℕ} {p j : ℕ} → EntryRight b p j → UsedFrom2 b (child b j)
 entry-used {b} {p} {j} e = go (e .used)
   where
     go : Used b (child b j) → UsedFrom2 b (child b j)
@@ -37,8 +37,8 @@ module _ {b : List ℕ} (ok : Accepted b) where
       no-entry : ¬ (offset b 0 < offset b 1)
       no-entry h = let e = ok .lists .entry 0 (offset b 0) some-slot (record { from = le-refl (offset b 0); to = h }) in entry-used e .1 (e .up)
 
-  pub rows : Rows b
-  rows = record {
+  pub sorted-lists : ListsSorted b
+  sorted-lists = record {
     members = λ p j f t i. let e = ok .lists .entry p j t i in (e .from, e .to, e .up);
     ascending = λ p j f t i k. let z : j + 1 - 1 ≡ j = omega arith in rw z at (ok .lists .entry p (j + 1) t k .above (omega (arith, i .from)));
     none-of-zero = no-list-of-zero;
@@ -60,11 +60,11 @@ module _ {b : List ℕ} (ok : Accepted b) where
 
   child-used : (j : ℕ) → j < childCount b → (child b j < slotCount b) × UsedFrom2 b (child b j)
   child-used j h =
-      let o = owner rows j (omega (arith, ok .last)) in
+      let o = list-of-place sorted-lists j (omega (arith, ok .last)) in
       let e = ok .lists .entry (o .slot) j (o .to) (o .within) in
       (e .to, entry-used e)
 
-  pub used-listed : (s : ℕ) → s < slotCount b → UsedFrom2 b s → (j : ℕ) × (j < childCount b) × (child b j ≡ s)
+  used-listed : (s : ℕ) → s < slotCount b → UsedFrom2 b s → (j : ℕ) × (j < childCount b) × (child b j ≡ s)
   unfolding usedCount
   used-listed s h u = listed-is s (count-filled listed (isUsedFrom2 b) (slotCount b) only (as-many ∙ ok .lists .count) s h (used-from-2 b s .1 u))
     where
@@ -74,19 +74,19 @@ module _ {b : List ℕ} (ok : Accepted b) where
       as-many : countBelow (slotCount b) listed ≡ childCount b
       as-many = count-of (childCount b) (slotCount b) listed (child b) (record {
         lands = λ j l. (child-used j l .0, is-listed j l);
-        injective = λ i j l m e. children-differ rows i j (omega (arith, ok .last)) (omega (arith, ok .last)) e;
+        injective = λ i j l m e. children-differ sorted-lists i j (omega (arith, ok .last)) (omega (arith, ok .last)) e;
         surjective = λ t l e. listed-is t e;
       })
 
   pub lists-fit : ListsFit b
   lists-fit = record {
-    members = rows .members;
+    members = sorted-lists .members;
     whole = λ p s f t g l e.
         let r = used-listed s l (g, λ z. omega arith) in
-        let o = owner rows (r .0) (omega (arith, r .1, ok .last)) in
-        let same : o .slot ≡ p = sym (rows .members (o .slot) (r .0) (o .from) (o .to) (o .within) .2) ∙ ap (parent b) (r .2) ∙ e in
+        let o = list-of-place sorted-lists (r .0) (omega (arith, r .1, ok .last)) in
+        let same : o .slot ≡ p = sym (sorted-lists .members (o .slot) (r .0) (o .from) (o .to) (o .within) .2) ∙ ap (parent b) (r .2) ∙ e in
         (r .0, rw same at (o .within), r .2);
-    ascending = rows .ascending;
+    ascending = sorted-lists .ascending;
     none-of-zero = no-list-of-zero;
     first = ok .first;
     last = ok .last;

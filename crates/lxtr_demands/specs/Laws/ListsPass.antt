@@ -12,12 +12,13 @@ use Rattle.lxtr_spec.specs.Labels.{lengthCount}
 use Rattle.lxtr_spec.specs.Image.{slotCount, childCount, isLeaf, base, parent, child, listWidth}
 use Rattle.lxtr_spec.specs.Refusals.{isUsedFrom2, usedCount}
 use Rattle.lxtr_spec.specs.Sets.{PairSet, Has, InList}
-use Rattle.lxtr_demands.specs.Laws.Facts.{UsedFrom2, EntryRight, ListsRight, ancestor, Reaches}
-use Rattle.lxtr_demands.specs.Laws.Refusals.{used-from-2}
+use Rattle.lxtr_laws.specs.Facts.{UsedFrom2, EntryRight, ListsRight, ancestor, Reaches}
+use Rattle.lxtr_laws.specs.Faults.{used-from-2}
 use Rattle.lxtr_demands.specs.Laws.Counting.{count-of}
-use Rattle.lxtr_demands.specs.Laws.Keys.{snoc-cons, prefix-key, prefix-on}
-use Rattle.lxtr_demands.specs.Laws.Steps.{walk-ancestor}
-use Rattle.lxtr_demands.specs.Laws.Rows.{Rows, rows-of, owner, in-array, children-differ, in-list}
+use Rattle.lxtr_laws.specs.Keys.{snoc-cons, prefix-key, prefix-on}
+use Rattle.lxtr_laws.specs.Steps.{walk-ancestor}
+use Rattle.lxtr_laws.specs.Lists.{in-list}
+use Rattle.lxtr_demands.specs.Laws.Places.{ListsSorted, lists-sorted, list-of-place, in-array, children-differ}
 use Rattle.lxtr_demands.specs.Laws.Kinds.{KindIn, root, inner, leaf, unused, unused-parent, KnownImage}
 use Rattle.lxtr_demands.specs.Laws.Entries.{ended-place, longer-place}
 use Rattle.lxtr_demands.specs.Laws.SlotsPass.{slot-right}
@@ -27,8 +28,8 @@ module _ {b : List ℕ} {d : PairSet} (known : KnownImage b d) where
   open KnownImage known using (image, kinds)
 
   -- 11
-  rows : Rows b
-  rows = rows-of (image .lists)
+  sorted-lists : ListsSorted b
+  sorted-lists = lists-sorted (image .lists)
 
   entry-right : (p j : ℕ) → p < slotCount b → InList b p j → EntryRight b p j
   entry-right zero j t i = absurd (omega (arith, i .from, i .to, image .lists .none-of-zero))
@@ -51,16 +52,16 @@ module _ {b : List ℕ} {d : PairSet} (known : KnownImage b d) where
       let u = used-from-2 b s .0 e in
       let below = slot-right known (kinds s l) .used u .parent-below in
       let r = image .lists .whole (parent b s) s (omega (arith, u .1)) below (u .0) l refl in
-      (r .0, omega (arith, in-array rows (parent b s) (r .0) below (r .1), image .lists .last), r .2)
+      (r .0, omega (arith, in-array sorted-lists (parent b s) (r .0) below (r .1), image .lists .last), r .2)
 
   children-counted : childCount b ≡ usedCount b
   unfolding usedCount
   children-counted = sym (count-of (childCount b) (slotCount b) (isUsedFrom2 b) (child b) (record {
     lands = λ j l.
-        let o = owner rows j (omega (arith, image .lists .last)) in
+        let o = list-of-place sorted-lists j (omega (arith, image .lists .last)) in
         let m = image .lists .members (o .slot) j (o .from) (o .to) (o .within) in
         (m .1, used-from-2 b (child b j) .1 (m .0, λ z. omega (arith, m .2, o .from)));
-    injective = λ i j l m e. children-differ rows i j (omega (arith, image .lists .last)) (omega (arith, image .lists .last)) e;
+    injective = λ i j l m e. children-differ sorted-lists i j (omega (arith, image .lists .last)) (omega (arith, image .lists .last)) e;
     surjective = place;
   }))
 

@@ -1,35 +1,27 @@
 -- The lengths at which a query's prefixes are keys are a run over all lengths, so they come shortest first.
 -- The limit on their number takes no prefix away, since no key is longer; the last of them is the longest.
-use Prim.Native.Nat.{ℕ, zero, suc, _+_, _≤_, _<_}
+use Prim.Native.Nat.{ℕ, _+_, _≤_}
 use native.Mathlib.Omega.{arith}
 use mathlib.Core.Path.{_≡_, refl, sym, ap, _∙_}
-use mathlib.Core.Logic.{_↔_, _⊎_, inl, inr}
+use mathlib.Core.Logic.{_⊎_, inl, inr}
 use mathlib.Core.List.{List, [], _∷_, _++_, List·Memᴰ, List·Memᴰ·head, List·Memᴰ·tail, List·Memᴰ·not-nil, List·Memᴰ·cases-cons, List·Memᴰ·eq-of-singleton}
 use mathlib.Core.Option.{Option, some, none}
 use lib.ListN.{length, take, drop, take-append-drop, length-take, length-append}
 use lib.Seq.{take-take, take-append-seam, length-take-le}
+use Rattle.lxtr_spec.specs.Ranges.{concatFrom}
 use Rattle.lxtr_spec.specs.Labels.{maxLabels}
-use Rattle.lxtr_spec.specs.Searches.{lengthMatch, matchesFrom, matches, lastLength}
+use Rattle.lxtr_spec.specs.Searches.{lengthMatch, matchAt, matches, lastLength}
 use Rattle.lxtr_spec.specs.Sets.{PairSet, Has}
-use Rattle.lxtr_spec.specs.Meaning.{Rising, PrefixesIn, LongestIn}
-use Rattle.lxtr_demands.specs.Laws.Sorted.{Within, Adjacent, Sorted, sorted-one, sorted-adjacent, adjacent-sorted, one-list}
-use Rattle.lxtr_demands.specs.Laws.Runs.{run, run-in, run-from, run-sorted}
+use Rattle.lxtr_spec.specs.Meaning.{Shorter, PrefixesIn, LongestIn}
+use Rattle.lxtr_demands.specs.Laws.Sorted.{Within, Sorted, sorted-one, sorted-adjacent, adjacent-sorted, one-list}
+use Rattle.lxtr_demands.specs.Laws.Runs.{run-in, run-from, run-sorted}
 
 -- length and value of a prefix
 abbrev Match : Type 0
 Match = ℕ × ℕ
 
-abbrev Shorter : Match → Match → Type 0
-Shorter m n = m .0 < n .0
-
 shorter-trans : (l m n : Match) → Shorter l m → Shorter m n → Shorter l n
 shorter-trans l m n h k = omega arith
-
-rising-adjacent : (ms : List Match) → Rising ms ↔ Adjacent Shorter ms
-unfolding Rising Adjacent
-rising-adjacent [] = (λ o. o, λ o. o)
-rising-adjacent (m ∷ []) = (λ o. o, λ o. o)
-rising-adjacent (m ∷ n ∷ ms) = let rest = rising-adjacent (n ∷ ms) in (λ o. (o .0, rest .0 (o .1)), λ o. (o .0, rest .1 (o .1)))
 
 -- what one length gives
 match-sorted : (k : ℕ) (o : Option ℕ) → Sorted Shorter (lengthMatch k o)
@@ -43,33 +35,25 @@ match-is k none m i = absurd (List·Memᴰ·not-nil i)
 match-is k (some v) m i = let e : m ≡ (k, v) = List·Memᴰ·eq-of-singleton i in (ap (λ (z : Match). z .0) e, ap (λ (z : Match). some (z .1)) (sym e))
 
 module _ (d : PairSet) (ys : List ℕ) where
-  at-length : ℕ → List Match
-  at-length k = lengthMatch k (d (take k ys))
-
-  from-run : (n k : ℕ) → matchesFrom d ys n k ≡ run n k at-length
-  unfolding matchesFrom run at-length
-  from-run zero k = refl
-  from-run (suc n) k = ap (λ (t : List Match). at-length k ++ t) (from-run n (k + 1))
-
-  matches-run : matches d ys ≡ run (length ys + 1) 0 at-length
+  matches-run : matches d ys ≡ concatFrom (length ys + 1) 0 (matchAt d ys)
   unfolding matches
-  matches-run = from-run (length ys + 1) 0
+  matches-run = refl
 
   matches-sorted : Sorted Shorter (matches d ys)
-  unfolding at-length
-  matches-sorted = rw matches-run (run-sorted at-length Shorter (length ys + 1) 0 (λ k _ _. match-sorted k (d (take k ys))) (λ i k p r l h u m n.
+  unfolding matchAt
+  matches-sorted = rw matches-run (run-sorted (matchAt d ys) Shorter (length ys + 1) 0 (λ k _ _. match-sorted k (d (take k ys))) (λ i k p r l h u m n.
       let e = match-is i (d (take i ys)) p m in
       let g = match-is k (d (take k ys)) r n in
       omega arith))
 
   matches-in : (k v : ℕ) → k ≤ length ys → Has d (take k ys) v → List·Memᴰ (k, v) (matches d ys)
-  unfolding at-length lengthMatch
-  matches-in k v l h = rw matches-run (run-in at-length (length ys + 1) 0 k (k, v) (omega arith) (omega arith) (rw h (List·Memᴰ·head refl)))
+  unfolding matchAt lengthMatch
+  matches-in k v l h = rw matches-run (run-in (matchAt d ys) (length ys + 1) 0 k (k, v) (omega arith) (omega arith) (rw h (List·Memᴰ·head refl)))
 
   matches-from : (k v : ℕ) → List·Memᴰ (k, v) (matches d ys) → (k ≤ length ys) × Has d (take k ys) v
-  unfolding at-length
+  unfolding matchAt
   matches-from k v m =
-      let q = run-from at-length (length ys + 1) 0 (k, v) (rw matches-run at m) in
+      let q = run-from (matchAt d ys) (length ys + 1) 0 (k, v) (rw matches-run at m) in
       let e = match-is (q .0) (d (take (q .0) ys)) (k, v) (q .3) in
       (omega (arith, q .2, e .0), rw (e .0) (e .1))
 
@@ -77,7 +61,7 @@ module _ (d : PairSet) (ys : List ℕ) where
 module _ (d : PairSet) (limit : (k : List ℕ) (v : ℕ) → Has d k v → length k ≤ maxLabels) (xs : List ℕ) where
   pub prefixes-in : PrefixesIn d xs (matches d (take maxLabels xs))
   prefixes-in = record {
-    rising = rising-adjacent (matches d (take maxLabels xs)) .1 (sorted-adjacent Shorter (matches d (take maxLabels xs)) (matches-sorted d (take maxLabels xs)));
+    rising = sorted-adjacent Shorter (matches d (take maxLabels xs)) (matches-sorted d (take maxLabels xs));
     all = λ p r v e h.
         let l = limit p v h in
         let same : take (length p) (take maxLabels xs) ≡ p = take-take (length p) maxLabels xs l ∙ ap (take (length p)) e ∙ take-append-seam p r in
@@ -92,7 +76,7 @@ module _ (d : PairSet) (limit : (k : List ℕ) (v : ℕ) → Has d k v → lengt
 -- there is one such list
 pub one-prefixes : (d : PairSet) (xs : List ℕ) (ms ns : List Match) → PrefixesIn d xs ms → PrefixesIn d xs ns → ms ≡ ns
 one-prefixes d xs ms ns p q =
-    one-list Shorter shorter-trans (λ m h. omega arith) ms ns (rising-adjacent ms .0 (p .rising)) (rising-adjacent ns .0 (q .rising)) (over ms ns p q) (over ns ms q p)
+    one-list Shorter shorter-trans (λ m h. omega arith) ms ns (p .rising) (q .rising) (over ms ns p q) (over ns ms q p)
   where
     over : (ms ns : List Match) → PrefixesIn d xs ms → PrefixesIn d xs ns → Within ms ns
     over ms ns p q m i = let r = p .only (m .0) (m .1) i in rw (r .3) at (q .all (r .0) (r .1) (m .1) (r .2) (r .4))
@@ -116,7 +100,7 @@ last-most (n ∷ l ∷ ms) s m i = go (last-most (l ∷ ms) (s .1) m) (List·Mem
 pub longest-in : (d : PairSet) (xs : List ℕ) (ms : List Match) → PrefixesIn d xs ms → LongestIn d xs (lastLength ms)
 unfolding lastLength
 longest-in d xs ms p = record {
-  most = λ q r v e h. last-most ms (adjacent-sorted Shorter shorter-trans ms (rising-adjacent ms .0 (p .rising))) (length q, v) (p .all q r v e h);
+  most = λ q r v e h. last-most ms (adjacent-sorted Shorter shorter-trans ms (p .rising)) (length q, v) (p .all q r v e h);
   is = go ms (p .only);
 }
   where

@@ -13,8 +13,9 @@ use Rattle.lxtr_spec.specs.Searches.{probeAnswer, probeAt}
 use Rattle.lxtr_spec.specs.Sets.{PairSet, Has, Prefix, InList}
 use Rattle.lxtr_spec.specs.Meaning.{Longer}
 use Rattle.lxtr_laws.specs.Tests.{ltb-is-true}
-use Rattle.lxtr_demands.specs.Laws.Keys.{snoc-cons, prefix-part, prefix-on}
-use Rattle.lxtr_demands.specs.Laws.Rows.{rows-of, code-rises, in-list}
+use Rattle.lxtr_laws.specs.Keys.{snoc-cons, prefix-part, prefix-on}
+use Rattle.lxtr_laws.specs.Lists.{in-list}
+use Rattle.lxtr_demands.specs.Laws.Places.{lists-sorted, code-rises}
 use Rattle.lxtr_demands.specs.Laws.Kinds.{KnownImage}
 use Rattle.lxtr_demands.specs.Laws.Slots.{prefix-slot, ChildIn, longer, ended}
 use Rattle.lxtr_demands.specs.Laws.Entries.{ended-code, entry-is, ended-place, longer-place}
@@ -29,7 +30,7 @@ module _ (d : PairSet) (xs : List ℕ) where
   prefix-longer x f = let k = prefix-on d xs x f in record { next = x; rest = k .0; value = k .1; is = rw append-assoc at (k .2) }
 
 module _ {b : List ℕ} {d : PairSet} (known : KnownImage b d) (xs : List ℕ) where
-  open KnownImage known using (image, kinds)
+  open KnownImage known using (image)
 
   module _ (f : Prefix d xs) where
     -- an entry that is not the end
@@ -46,7 +47,7 @@ module _ {b : List ℕ} {d : PairSet} (known : KnownImage b d) (xs : List ℕ) w
         let at = prefix-slot image xs f in
         let first = in-list b n (offset b n) .1 (omega arith) in
         let second = in-list b n (offset b n + 1) .1 (omega arith) in
-        let rises = code-rises (rows-of (image .lists)) n (at .from) (at .to) (offset b n) (offset b n + 1) first second (omega arith) in
+        let rises = code-rises (lists-sorted (image .lists)) n (at .from) (at .to) (offset b n) (offset b n + 1) first second (omega arith) in
         entry-longer (offset b n + 1) second (λ v k c. omega (arith, rises, ended-code image xs (offset b n + 1) v k c))
     wide-longer false e h =
         let n : ℕ = image .slot xs in

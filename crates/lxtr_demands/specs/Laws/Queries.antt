@@ -11,9 +11,9 @@ use lib.ListN.{length, length-append}
 use lib.Dec.{ltb}
 use borrow.Author.Tests.{le-ltb}
 use Rattle.lxtr_spec.specs.Labels.{maxLabels}
-use Rattle.lxtr_spec.specs.Walks.{walk, walkWithin, valueReached, exactAt}
+use Rattle.lxtr_spec.specs.Walks.{walk, walkWithin, valueReached, valueOf}
 use Rattle.lxtr_spec.specs.Sets.{PairSet, Prefix}
-use Rattle.lxtr_demands.specs.Laws.Keys.{prefix-key, GoesOn}
+use Rattle.lxtr_laws.specs.Keys.{prefix-key, GoesOn}
 use Rattle.lxtr_demands.specs.Laws.Kinds.{KnownImage}
 use Rattle.lxtr_demands.specs.Laws.Slots.{walk-prefix, walked, set-is}
 
@@ -23,9 +23,9 @@ pub data Leads (d : PairSet) (slot : List ℕ → ℕ) (xs : List ℕ) : Option 
   nowhere : (Prefix d xs → ⊥) → Leads d slot xs none
 
 module _ {b : List ℕ} {d : PairSet} (known : KnownImage b d) (xs : List ℕ) where
-  open KnownImage known using (image, kinds)
+  open KnownImage known using (image)
 
-  pub prefix-length : Prefix d xs → length xs ≤ maxLabels
+  prefix-length : Prefix d xs → length xs ≤ maxLabels
   prefix-length f = go (f .is)
     where
       go : (xs ≡ []) ⊎ GoesOn d xs → length xs ≤ maxLabels
@@ -51,7 +51,7 @@ module _ {b : List ℕ} {d : PairSet} (known : KnownImage b d) (xs : List ℕ) w
 
   -- the value there is the set's
   pub value-led : {o : Option ℕ} → Leads d (image .slot) xs o → valueReached b o ≡ d xs
-  unfolding valueReached exactAt
+  unfolding valueReached valueOf
   value-led (to-slot f) = sym (rw (walk-prefix image xs f) at (set-is known xs))
   value-led (nowhere n) = go (d xs) refl
     where

@@ -1,38 +1,17 @@
--- The records of pairs take as many bytes as document 01 counts: 5 and four for each label, and 5 more for version and count.
--- So the pairs that completion writes are the front part for which there is room, and all of them in room enough.
-use Prim.Native.Nat.{ℕ, _+_, _*_, _-_, _≤_, _<_}
+-- The pairs that completion writes are the front part for which there is room, and no other part is that.
+-- In room enough they are all.
+use Prim.Native.Nat.{ℕ, _+_, _-_, _≤_, _<_}
 use native.Mathlib.Omega.{arith}
-use mathlib.Core.Path.{_≡_, refl, sym, ap}
+use mathlib.Core.Path.{_≡_, refl, sym, ap, _∙_}
 use mathlib.Core.List.{List, [], _∷_, _++_, append-nil}
 use mathlib.Core.Bool.{Bool, true, false, cond}
-use lib.ListN.{length, length-append}
+use lib.ListN.{length}
 use lib.Dec.{leb}
 use borrow.Author.Tests.{leb-true, leb-false, le-leb, lt-leb}
-use Rattle.lxtr_spec.specs.Words.{beBytes, beWords}
 use Rattle.lxtr_spec.specs.Labels.{Pair}
-use Rattle.lxtr_spec.specs.Completions.{recordOf, recordsOf, listingOf, fitting, roomFor}
+use Rattle.lxtr_spec.specs.Completions.{recordOf, fitting, roomFor}
 use Rattle.lxtr_spec.specs.Meaning.{FittingFront}
-
-words-length : (l : List ℕ) → length (beWords l) ≡ 4 * length l
-unfolding beWords beBytes
-words-length [] = refl
-words-length (x ∷ l) = let e = words-length l in omega arith
-
-record-length : (p : Pair) → length (recordOf p) ≡ 5 + 4 * length (p .0)
-unfolding recordOf beBytes
-record-length p = omega (arith, length-append (beWords (p .0)) (beBytes (p .1)), words-length (p .0))
-
-records-length : (ps : List Pair) → 5 + length (recordsOf ps) ≡ roomFor ps
-unfolding recordsOf roomFor
-records-length [] = refl
-records-length (p ∷ ps) = omega (arith, length-append (recordOf p) (recordsOf ps), record-length p, records-length ps)
-
-pub listing-length : (ps : List Pair) → length (listingOf ps) ≡ roomFor ps
-unfolding listingOf beBytes
-listing-length ps = omega (arith, records-length ps)
-
-pub room-from : (ps : List Pair) → 5 ≤ roomFor ps
-room-from ps = omega (arith, records-length ps)
+use Rattle.lxtr_laws.specs.Lengths.{record-length, room-from}
 
 -- no list is both empty and not
 nil-not-cons : {p : Pair} {ps : List Pair} → _≡_ {A = List Pair} [] (p ∷ ps) → ⊥
@@ -80,3 +59,8 @@ front-fits r (p ∷ fit) rest h k =
 
 pub fitting-is : (r : ℕ) (ps fit : List Pair) → FittingFront (5 + r) ps fit → fitting r ps ≡ fit
 fitting-is r ps fit f = rw (f .parts) (front-fits r fit (f .rest) (f .fits) (f .full))
+
+pub one-front : (r : ℕ) (ps fit other : List Pair) → FittingFront r ps fit → FittingFront r ps other → fit ≡ other
+one-front r ps fit other f g =
+    let all : 5 + (r - 5) ≡ r = omega (arith, f .fits, room-from fit) in
+    sym (fitting-is (r - 5) ps fit (rw all f)) ∙ fitting-is (r - 5) ps other (rw all g)

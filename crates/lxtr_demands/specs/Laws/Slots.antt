@@ -7,12 +7,12 @@ use mathlib.Core.Logic.{inl, inr}
 use mathlib.Core.List.{List, [], _∷_, _++_, append-assoc}
 use mathlib.Core.Option.{Option, some, none}
 use Rattle.lxtr_spec.specs.Image.{slotCount, parent}
-use Rattle.lxtr_spec.specs.Walks.{walk, exactAt}
+use Rattle.lxtr_spec.specs.Walks.{walk, valueOf}
 use Rattle.lxtr_spec.specs.Sets.{PairSet, Has, Prefix, Listed, ImageOf}
-use Rattle.lxtr_demands.specs.Laws.Facts.{Used}
+use Rattle.lxtr_laws.specs.Facts.{Used}
 use Rattle.lxtr_demands.specs.Laws.Codes.{code-listed, listed-code, listed-same}
-use Rattle.lxtr_demands.specs.Laws.Keys.{Last, empty, snoc, last, prefix-root, prefix-key, prefix-part, prefix-on}
-use Rattle.lxtr_demands.specs.Laws.Steps.{Stepped, one-code, walk-empty, none-not-some, walk-snoc, exact-is}
+use Rattle.lxtr_laws.specs.Keys.{Last, empty, snoc, last, prefix-root, prefix-key, prefix-part, prefix-on}
+use Rattle.lxtr_laws.specs.Steps.{Stepped, one-code, walk-empty, none-not-some, walk-snoc, exact-is}
 use Rattle.lxtr_demands.specs.Laws.Kinds.{KindIn, root, inner, leaf, unused, unused-parent, KnownImage}
 
 -- where the slot of a prefix lies
@@ -79,7 +79,7 @@ module _ {b : List ℕ} {d : PairSet} (image : ImageOf b d) where
   pub walk-prefix : (p : List ℕ) → Prefix d p → walk b 1 p ≡ some (image .slot p)
   walk-prefix p = walk-last p (last p)
 
-  key-value : (k : List ℕ) (v : ℕ) → Has d k v → Has (exactAt b) k v
+  key-value : (k : List ℕ) (v : ℕ) → Has d k v → Has (valueOf b) k v
   key-value k v h =
       let f = prefix-key d k v h in
       let l = image .placed .end-leaf k v h in
@@ -141,16 +141,16 @@ module _ {b : List ℕ} {d : PairSet} (known : KnownImage b d) where
   walked p = walked-last p (last p)
 
   -- exact search finds the set's value of every key
-  pub set-is : (k : List ℕ) → d k ≡ exactAt b k
-  set-is k = go (d k) refl (exactAt b k) refl
+  pub set-is : (k : List ℕ) → d k ≡ valueOf b k
+  set-is k = go (d k) refl (valueOf b k) refl
     where
-      is-key : (v : ℕ) → Has (exactAt b) k v → (w : ℕ) × Has d k w
+      is-key : (v : ℕ) → Has (valueOf b) k v → (w : ℕ) × Has d k w
       is-key v e =
           let r = exact-is b k v .0 e in
           let s = walked k (r .0) (r .1) in
           image .placed .slot-flag k (s .0) .0 (rw (s .1) (r .2 .flag))
 
-      go : (o : Option ℕ) → d k ≡ o → (u : Option ℕ) → exactAt b k ≡ u → d k ≡ exactAt b k
+      go : (o : Option ℕ) → d k ≡ o → (u : Option ℕ) → valueOf b k ≡ u → d k ≡ valueOf b k
       go (some v) e u f = e ∙ sym (key-value image k v e)
       go none e none f = e ∙ sym f
       go none e (some v) f = absurd (none-not-some (sym e ∙ is-key v f .1))

@@ -10,15 +10,15 @@ use mathlib.Core.Option.{Option, some, none}
 use mathlib.Core.Bool.{Bool, true, false, true≢false}
 use Rattle.lxtr_spec.specs.Labels.{valueLimit}
 use Rattle.lxtr_spec.specs.Image.{slotFrom, baseWord, checkWord, slotCount, isLeaf, hasLeaf, parent, base, valueNumber, listWidth}
-use Rattle.lxtr_spec.specs.Walks.{walk, exactAt}
+use Rattle.lxtr_spec.specs.Walks.{walk, valueOf}
 use Rattle.lxtr_spec.specs.Sets.{Has, Prefix, KeysFit, Placed}
-use Rattle.lxtr_demands.specs.Laws.Facts.{UsedFrom2, Accepted}
-use Rattle.lxtr_demands.specs.Laws.Refusals.{end-exists, leaf-no-end}
+use Rattle.lxtr_laws.specs.Facts.{UsedFrom2, Accepted}
+use Rattle.lxtr_laws.specs.Faults.{end-exists, leaf-no-end}
 use Rattle.lxtr_demands.specs.Laws.Codes.{code-listed, listed-code}
-use Rattle.lxtr_demands.specs.Laws.Keys.{snoc-cons, prefix-root, prefix-part}
-use Rattle.lxtr_demands.specs.Laws.Steps.{walk-empty, some-same, none-not-some}
+use Rattle.lxtr_laws.specs.Keys.{snoc-cons, prefix-root, prefix-part}
+use Rattle.lxtr_laws.specs.Steps.{walk-empty, some-same, none-not-some}
 use Rattle.lxtr_demands.specs.Laws.Lists.{lists-fit}
-use Rattle.lxtr_demands.specs.Laws.Walks.{Reached, root-parent, has-parent, step-used, step-leaf, child-depth, leaf-child, inner-child, on-to-key, parent-walk}
+use Rattle.lxtr_demands.specs.Laws.Walks.{WalkSlot, root-parent, has-parent, step-used, step-leaf, child-depth, leaf-child, inner-child, on-to-key, parent-walk}
 use Rattle.lxtr_demands.specs.Laws.WalkSlots.{slotAt, endAt, walk-slot, root-slot, prefix-walk, prefix-step, key-walk, key-valued, end-is, end-step, end-leaf, prefix-reached, key-reached, walk-once}
 use Rattle.lxtr_demands.specs.Laws.Kinds.{Kind, root, inner, leaf, unused, KnownImage}
 
@@ -27,19 +27,19 @@ unfolding valueNumber
 value-small b s = omega arith
 
 module _ {b : List ℕ} (ok : Accepted b) where
-  keys-fit : KeysFit b (exactAt b)
+  keys-fit : KeysFit b (valueOf b)
   keys-fit = record {
     key-length = λ k v h. let s = end-step b k v h in child-depth ok k (slotAt b k) (endAt b k) (key-walk b k v h) (s .below) (s .up);
     key-value = λ k v h. let x = key-valued b k v h in rw (← (x .value)) (value-small b (x .slot));
     key-label = λ p x r v h. let s = prefix-step b p x (record { is = inr (r, v, rw snoc-cons at h) }) in (s .0, code-listed b x (s .0) (s .1));
   }
 
-  kinds : (s : ℕ) → s < slotCount b → Kind b (exactAt b) (slotAt b) (endAt b) s
+  kinds : (s : ℕ) → s < slotCount b → Kind b (valueOf b) (slotAt b) (endAt b) s
   unfolding endAt
   kinds s l = go (ℕ-discrete (parent b s) 0)
     where
       IsKind : ℕ → Type 0
-      IsKind = Kind b (exactAt b) (slotAt b) (endAt b)
+      IsKind = Kind b (valueOf b) (slotAt b) (endAt b)
 
       no-parent : (t : ℕ) → t < slotCount b → parent b t ≡ 0 → IsKind t
       no-parent zero k e = unused 0 (ok .slots 0 k .zero refl)
@@ -60,40 +60,40 @@ module _ {b : List ℕ} (ok : Accepted b) where
       go (no h) = let u = has-parent ok s h in child u (parent-walk ok s l u) (isLeaf b s) refl
 
   -- of an empty set, slot 1 has base 0
-  empty-root : ((k : List ℕ) → exactAt b k ≡ none) → base b 1 ≡ 0
+  empty-root : ((k : List ℕ) → valueOf b k ≡ none) → base b 1 ≡ 0
   empty-root h =
       let childless : ¬ (1 ≤ listWidth b 1) = λ l. let k = on-to-key ok [] 1 (walk-empty b 1 .1 refl) (λ e. omega arith) in none-not-some (sym (h (k .0)) ∙ k .2) in
       ok .lists .root (omega arith)
 
   -- HAS_LEAF says whether a prefix is a key
-  flags : (p : List ℕ) → Prefix (exactAt b) p → (hasLeaf b (slotAt b p) ≡ true) ↔ ((v : ℕ) × Has (exactAt b) p v)
+  flags : (p : List ℕ) → Prefix (valueOf b) p → (hasLeaf b (slotAt b p) ≡ true) ↔ ((v : ℕ) × Has (valueOf b) p v)
   flags p f = (forth, λ k. key-valued b p (k .0) (k .1) .flag)
     where
       n : ℕ
       n = slotAt b p
 
-      r : Reached b n
+      r : WalkSlot b n
       r = prefix-reached ok p f
 
-      forth : hasLeaf b n ≡ true → (v : ℕ) × Has (exactAt b) p v
+      forth : hasLeaf b n ≡ true → (v : ℕ) × Has (valueOf b) p v
       forth e =
           let s = end-exists b n .0 (sym (ok .slots n (r .to) .flag (r .from)) ∙ e) in
           (valueNumber b (base b n), leaf-child ok p n (base b n) (prefix-walk b p f) (s .below) (s .up) (step-leaf ok (r .from) s) .0)
 
-  end-no-flag : (k : List ℕ) (v : ℕ) → Has (exactAt b) k v → hasLeaf b (endAt b k) ≡ false
+  end-no-flag : (k : List ℕ) (v : ℕ) → Has (valueOf b) k v → hasLeaf b (endAt b k) ≡ false
   end-no-flag k v h =
       let s = end-step b k v h in
       let u = step-used ok (key-reached ok k v h .from) s in
       ok .slots (endAt b k) (s .below) .flag (omega arith) ∙ leaf-no-end b (endAt b k) (end-leaf b k v h)
 
-  others : {s : ℕ} → Kind b (exactAt b) (slotAt b) (endAt b) s → ((p : List ℕ) → Prefix (exactAt b) p → slotAt b p ≢ s)
-      → ((k : List ℕ) (v : ℕ) → Has (exactAt b) k v → endAt b k ≢ s) → (baseWord b s ≡ 0) × (checkWord b s ≡ 0)
-  others root f k = absurd (f [] (prefix-root (exactAt b)) (root-slot b))
+  others : {s : ℕ} → Kind b (valueOf b) (slotAt b) (endAt b) s → ((p : List ℕ) → Prefix (valueOf b) p → slotAt b p ≢ s)
+      → ((k : List ℕ) (v : ℕ) → Has (valueOf b) k v → endAt b k ≢ s) → (baseWord b s ≡ 0) × (checkWord b s ≡ 0)
+  others root f k = absurd (f [] (prefix-root (valueOf b)) (root-slot b))
   others (inner p x h) f k = absurd (f (p ++ x ∷ []) h refl)
   others (leaf l v h) f k = absurd (k l v h refl)
   others (unused s z) f k = (z .base-word, z .check-word)
 
-  placed : Placed b (exactAt b) (slotAt b) (endAt b)
+  placed : Placed b (valueOf b) (slotAt b) (endAt b)
   placed = record {
     slots-differ = λ p q f g e. walk-once ok p q (slotAt b p) (prefix-walk b p f) (prefix-walk b q g ∙ ap {B = Option ℕ} some (sym e));
     ends-differ = λ k l v w g h e.
@@ -101,7 +101,7 @@ module _ {b : List ℕ} (ok : Accepted b) where
         (key-walk b l w h ∙ ap {B = Option ℕ} some (sym (end-step b l w h .up) ∙ ap (parent b) (sym e) ∙ end-step b k v g .up));
     slot-no-end = λ p k v f h e. true≢false (sym (ap (isLeaf b) e ∙ end-leaf b k v h) ∙ prefix-reached ok p f .inner);
     root = root-slot b;
-    slot-in = λ p x f. let s = prefix-step b p x f in (step-used ok (prefix-reached ok p (prefix-part (exactAt b) p (x ∷ []) f) .from) (s .2) .0, s .2 .below);
+    slot-in = λ p x f. let s = prefix-step b p x f in (step-used ok (prefix-reached ok p (prefix-part (valueOf b) p (x ∷ []) f) .from) (s .2) .0, s .2 .below);
     end-in = λ k v h. let s = end-step b k v h in (step-used ok (key-reached ok k v h .from) s .0, s .below);
     slot-at = λ p x c f l.
         let s = prefix-step b p x f in
@@ -118,5 +118,5 @@ module _ {b : List ℕ} (ok : Accepted b) where
     others = λ s l. others (kinds s l);
   }
 
-  pub sound : KnownImage b (exactAt b)
+  pub sound : KnownImage b (valueOf b)
   sound = record { image = record { framed = ok .framed; keys = keys-fit; slot = slotAt b; end = endAt b; placed = placed; lists = lists-fit ok }; kinds = kinds }

@@ -8,13 +8,13 @@ use mathlib.Core.List.{List, [], _∷_, _++_}
 use mathlib.Core.Option.{Option, some, Option·getD}
 use mathlib.Core.Bool.{true}
 use Rattle.lxtr_spec.specs.Image.{slotFrom, isLeaf, parent, codeOf}
-use Rattle.lxtr_spec.specs.Walks.{walk, exactAt}
+use Rattle.lxtr_spec.specs.Walks.{walk, valueOf}
 use Rattle.lxtr_spec.specs.Sets.{Has, Prefix}
-use Rattle.lxtr_demands.specs.Laws.Facts.{Accepted}
+use Rattle.lxtr_laws.specs.Facts.{Accepted}
 use Rattle.lxtr_demands.specs.Laws.Codes.{code-listed, listed-same}
-use Rattle.lxtr_demands.specs.Laws.Keys.{Last, empty, snoc, last, prefix-key, GoesOn}
-use Rattle.lxtr_demands.specs.Laws.Steps.{walk-empty, one-code, Stepped, Valued, walk-append, walk-snoc, exact-is}
-use Rattle.lxtr_demands.specs.Laws.Walks.{Reached, reached, root-parent}
+use Rattle.lxtr_laws.specs.Keys.{Last, empty, snoc, last, prefix-key, GoesOn}
+use Rattle.lxtr_laws.specs.Steps.{walk-empty, one-code, Stepped, Valued, walk-append, walk-snoc, exact-is}
+use Rattle.lxtr_demands.specs.Laws.Walks.{WalkSlot, reached, root-parent}
 
 unfoldable pub slotAt : List ℕ → List ℕ → ℕ
 slotAt b p = Option·getD (walk b 1 p) 0
@@ -31,13 +31,13 @@ module _ (b : List ℕ) where
   root-slot = walk-slot [] 1 (walk-empty b 1 .1 refl)
 
   -- a prefix is walked to
-  pub prefix-walk : (p : List ℕ) → Prefix (exactAt b) p → walk b 1 p ≡ some (slotAt b p)
+  pub prefix-walk : (p : List ℕ) → Prefix (valueOf b) p → walk b 1 p ≡ some (slotAt b p)
   prefix-walk p f = go (f .is)
     where
       to : (n : ℕ) → walk b 1 p ≡ some n → walk b 1 p ≡ some (slotAt b p)
       to n e = e ∙ ap {B = Option ℕ} some (sym (walk-slot p n e))
 
-      go : (p ≡ []) ⊎ GoesOn (exactAt b) p → walk b 1 p ≡ some (slotAt b p)
+      go : (p ≡ []) ⊎ GoesOn (valueOf b) p → walk b 1 p ≡ some (slotAt b p)
       go (inl e) = to 1 (ap (walk b 1) e ∙ walk-empty b 1 .1 refl)
       go (inr (r, v, e)) =
           let x = exact-is b (p ++ r) v .0 e in
@@ -45,14 +45,14 @@ module _ (b : List ℕ) where
           to (w .0) (w .1)
 
   -- the last step to a prefix
-  pub prefix-step : (p : List ℕ) (x : ℕ) → Prefix (exactAt b) (p ++ x ∷ []) → (c : ℕ) × (codeOf b x ≡ some c) × Stepped b (slotAt b p) c (slotAt b (p ++ x ∷ []))
+  pub prefix-step : (p : List ℕ) (x : ℕ) → Prefix (valueOf b) (p ++ x ∷ []) → (c : ℕ) × (codeOf b x ≡ some c) × Stepped b (slotAt b p) c (slotAt b (p ++ x ∷ []))
   prefix-step p x f =
       let r = walk-snoc b p x (slotAt b (p ++ x ∷ [])) .0 (prefix-walk (p ++ x ∷ []) f) in
       (r .code, r .coded, rw (walk-slot p (r .slot) (r .walked)) (r .stepped))
 
-  module _ (k : List ℕ) (v : ℕ) (h : Has (exactAt b) k v) where
+  module _ (k : List ℕ) (v : ℕ) (h : Has (valueOf b) k v) where
     pub key-walk : walk b 1 k ≡ some (slotAt b k)
-    key-walk = prefix-walk k (prefix-key (exactAt b) k v h)
+    key-walk = prefix-walk k (prefix-key (valueOf b) k v h)
 
     -- a key's value stands at its end
     pub key-valued : Valued b (slotAt b k) v
@@ -69,11 +69,11 @@ module _ (b : List ℕ) where
     end-leaf = rw end-is at (key-valued .leaf)
 
 module _ {b : List ℕ} (ok : Accepted b) where
-  pub prefix-reached : (p : List ℕ) → Prefix (exactAt b) p → Reached b (slotAt b p)
+  pub prefix-reached : (p : List ℕ) → Prefix (valueOf b) p → WalkSlot b (slotAt b p)
   prefix-reached p f = reached ok p (slotAt b p) (prefix-walk b p f)
 
-  pub key-reached : (k : List ℕ) (v : ℕ) → Has (exactAt b) k v → Reached b (slotAt b k)
-  key-reached k v h = prefix-reached k (prefix-key (exactAt b) k v h)
+  pub key-reached : (k : List ℕ) (v : ℕ) → Has (valueOf b) k v → WalkSlot b (slotAt b k)
+  key-reached k v h = prefix-reached k (prefix-key (valueOf b) k v h)
 
   -- no step comes to slot 1
   root-no-step : (r : List ℕ) (y n : ℕ) → 1 ≡ n → walk b 1 (r ++ y ∷ []) ≡ some n → ⊥

@@ -14,19 +14,19 @@ use borrow.Author.Tests.{eqb-true, eqb-false, ne-eqb}
 use Rattle.lxtr_spec.specs.Labels.{maxLabels, lengthCount}
 use Rattle.lxtr_spec.specs.Image.{slotFrom, slotCount, isLeaf, parent, base, valueNumber, offset, child, listWidth, labelOfCode}
 use Rattle.lxtr_spec.specs.Refusals.{ownCode}
-use Rattle.lxtr_spec.specs.Walks.{walk, exactAt}
+use Rattle.lxtr_spec.specs.Walks.{walk, valueOf}
 use Rattle.lxtr_spec.specs.Sets.{Has, Listed}
 use Rattle.lxtr_laws.specs.Joining.{slot-by-code, slot-of-base}
-use Rattle.lxtr_demands.specs.Laws.Facts.{UsedFrom2, Used, UsedRight, EntryRight, ancestor, Accepted}
-use Rattle.lxtr_demands.specs.Laws.Refusals.{end-exists}
+use Rattle.lxtr_laws.specs.Facts.{UsedFrom2, Used, UsedRight, EntryRight, ancestor, Accepted}
+use Rattle.lxtr_laws.specs.Faults.{end-exists}
 use Rattle.lxtr_demands.specs.Laws.Codes.{code-listed, listed-code}
-use Rattle.lxtr_demands.specs.Laws.Keys.{Last, empty, snoc, last, length-snoc, GoesOn}
-use Rattle.lxtr_demands.specs.Laws.Steps.{Stepped, own-code, walk-ancestor, walk-empty, walk-snoc, exact-is}
-use Rattle.lxtr_demands.specs.Laws.Rows.{in-list}
+use Rattle.lxtr_laws.specs.Keys.{Last, empty, snoc, last, length-snoc, GoesOn}
+use Rattle.lxtr_laws.specs.Steps.{Stepped, own-code, walk-ancestor, walk-empty, walk-snoc, exact-is}
+use Rattle.lxtr_laws.specs.Lists.{in-list}
 use Rattle.lxtr_demands.specs.Laws.Kinds.{unused-parent}
 
 -- a slot that a walk comes to
-pub record Reached (b : List ℕ) (n : ℕ) : Type 0 where
+pub record WalkSlot (b : List ℕ) (n : ℕ) : Type 0 where
   pub from : 1 ≤ n
   pub to : n < slotCount b
   pub inner : isLeaf b n ≡ false
@@ -36,7 +36,7 @@ module _ {b : List ℕ} (ok : Accepted b) where
   pub root-parent : parent b 1 ≡ 0
   root-parent = ok .slots 1 (ok .framed .slots .0) .root refl .1
 
-  pub zero-parent : parent b 0 ≡ 0
+  zero-parent : parent b 0 ≡ 0
   zero-parent = unused-parent (ok .slots 0 (omega (arith, ok .framed .slots)) .zero refl)
 
   pub has-parent : (s : ℕ) → parent b s ≢ 0 → UsedFrom2 b s
@@ -52,7 +52,7 @@ module _ {b : List ℕ} (ok : Accepted b) where
     pub step-leaf : isLeaf b t ≡ eqb c 0
     step-leaf = rw (own-code s) at (ok .slots t (s .below) .used step-used .leaf-code)
 
-  reached-last : (p : List ℕ) → Last p → (n : ℕ) → walk b 1 p ≡ some n → Reached b n
+  reached-last : (p : List ℕ) → Last p → (n : ℕ) → walk b 1 p ≡ some n → WalkSlot b n
   reached-last p empty n e =
       let two = ok .framed .slots .0 in
       rw (← (walk-empty b n .0 e)) (record { from = le-refl 1; to = two; inner = ok .slots 1 two .root refl .0 })
@@ -65,7 +65,7 @@ module _ {b : List ℕ} (ok : Accepted b) where
         inner = step-leaf (before .from) (r .stepped) ∙ ne-eqb (r .code) 0 (omega (arith, code-listed b x (r .code) (r .coded) .from));
       }
 
-  pub reached : (p : List ℕ) (n : ℕ) → walk b 1 p ≡ some n → Reached b n
+  pub reached : (p : List ℕ) (n : ℕ) → walk b 1 p ≡ some n → WalkSlot b n
   reached p = reached-last p (last p)
 
   ancestor-zero : (k : ℕ) → ancestor b k 0 ≡ 0
@@ -106,7 +106,7 @@ module _ {b : List ℕ} (ok : Accepted b) where
         let same : suc (length p) ≡ r .steps = steps-once (suc (length p)) (r .steps) t (ap (ancestor b (length p)) up ∙ walk-ancestor b p n w) (r .at-root) in
         omega (arith, r .within)
 
-    pub leaf-child : isLeaf b t ≡ true → Has (exactAt b) p (valueNumber b t) × (t ≡ slotFrom b n 0)
+    pub leaf-child : isLeaf b t ≡ true → Has (valueOf b) p (valueNumber b t) × (t ≡ slotFrom b n 0)
     leaf-child e =
         let c : ownCode b t ≡ 0 = eqb-true (ownCode b t) 0 (sym (child-right .leaf-code) ∙ e) in
         let s : Stepped b n 0 t = rw c at child-step in
@@ -126,20 +126,20 @@ module _ {b : List ℕ} (ok : Accepted b) where
   first-entry p n w h = ok .lists .entry n (offset b n) (reached p n w .to) (in-list b n (offset b n) .1 (omega arith))
 
   -- a slot that a walk comes to and that has a child is on the way to a key; f is how many labels are still allowed
-  key-below : (f : ℕ) (p : List ℕ) (n : ℕ) → walk b 1 p ≡ some n → listWidth b n ≢ 0 → maxLabels < length p + f → GoesOn (exactAt b) p
+  key-below : (f : ℕ) (p : List ℕ) (n : ℕ) → walk b 1 p ≡ some n → listWidth b n ≢ 0 → maxLabels < length p + f → GoesOn (valueOf b) p
   key-below zero p n w h k = let e = first-entry p n w h in absurd (omega (arith, child-depth p n (child b (offset b n)) w (e .to) (e .up)))
   key-below (suc f) p n w h k = let e = first-entry p n w h in by-child (child b (offset b n)) (e .to) (e .up) (key-below f) (isLeaf b (child b (offset b n))) refl
     where
       by-child : (t : ℕ) → t < slotCount b → parent b t ≡ n
-          → ((q : List ℕ) (m : ℕ) → walk b 1 q ≡ some m → listWidth b m ≢ 0 → maxLabels < length q + f → GoesOn (exactAt b) q)
-          → (a : Bool) → isLeaf b t ≡ a → GoesOn (exactAt b) p
+          → ((q : List ℕ) (m : ℕ) → walk b 1 q ≡ some m → listWidth b m ≢ 0 → maxLabels < length q + f → GoesOn (valueOf b) q)
+          → (a : Bool) → isLeaf b t ≡ a → GoesOn (valueOf b) p
       by-child t l up ih true e = ([], valueNumber b t, rw append-nil (leaf-child p n t w l up e .0))
       by-child t l up ih false e =
           let x = inner-child p n t w l up e in
           let r = ih (p ++ x .0 ∷ []) t (x .1) (ok .lists .parents t l (child-used p n t w l up) e) (omega (arith, length-snoc p (x .0))) in
           (x .0 ∷ r .0, r .1, rw append-assoc at (r .2))
 
-  pub on-to-key : (p : List ℕ) (n : ℕ) → walk b 1 p ≡ some n → listWidth b n ≢ 0 → GoesOn (exactAt b) p
+  pub on-to-key : (p : List ℕ) (n : ℕ) → walk b 1 p ≡ some n → listWidth b n ≢ 0 → GoesOn (valueOf b) p
   on-to-key p n w h = key-below lengthCount p n w h (omega arith)
 
   -- a walk comes to every used slot that is no leaf and from which steps to the parent lead to slot 1

@@ -1,4 +1,4 @@
--- The loop's invariant: what is found at all is what the places from i on give; each turn follows one of the laws of `Codes`.
+-- Invariant: the code of the label is what the search of the places from i on gives. Each turn is one of the laws of `Codes`.
 use borrow.Author.Needs.{needs}
 use Prim.Native.Nat.{_≤_, _-_}
 use mathlib.Core.Path.{_≡_}

@@ -1,4 +1,4 @@
--- The children lists cut the array of children into rows, one for each slot: every place of the array is in the list of one slot.
+-- Every place of the children array is in the list of one slot.
 -- Codes rise along a list, so no slot is listed twice.
 use Prim.Native.Nat.{ℕ, zero, suc, _+_, _-_, _≤_, _<_}
 use native.Mathlib.Nat.{le-refl, add-zero}
@@ -6,13 +6,13 @@ use native.Mathlib.Numerals.{add-one}
 use native.Mathlib.Decide.{decLt}
 use native.Mathlib.Omega.{arith}
 use mathlib.Core.Path.{_≡_, sym, ap, _∙_}
-use mathlib.Core.Logic.{_≢_, _↔_}
+use mathlib.Core.Logic.{_≢_}
 use mathlib.Core.List.{List}
-use Rattle.lxtr_spec.specs.Image.{codeTo, slotCount, parent, offset, child, listWidth}
+use Rattle.lxtr_spec.specs.Image.{codeTo, slotCount, parent, offset, child}
 use Rattle.lxtr_spec.specs.Sets.{InList, ListsFit}
 
 -- the lists hold children of their slots, by ascending code
-pub record Rows (b : List ℕ) : Type 0 where
+pub record ListsSorted (b : List ℕ) : Type 0 where
   pub members : (p j : ℕ) → 1 ≤ p → p < slotCount b → InList b p j → (2 ≤ child b j) × (child b j < slotCount b) × (parent b (child b j) ≡ p)
   pub ascending : (p j : ℕ) → 1 ≤ p → p < slotCount b → InList b p j → InList b p (j + 1)
       → codeTo b p (child b j) < codeTo b p (child b (j + 1))
@@ -20,33 +20,28 @@ pub record Rows (b : List ℕ) : Type 0 where
   pub first : offset b 0 ≡ 0
   pub rising : (p : ℕ) → p < slotCount b → offset b p ≤ offset b (p + 1)
 
-pub rows-of : {b : List ℕ} → ListsFit b → Rows b
-rows-of l = record { members = l .members; ascending = l .ascending; none-of-zero = l .none-of-zero; first = l .first; rising = l .rising }
+pub lists-sorted : {b : List ℕ} → ListsFit b → ListsSorted b
+lists-sorted l = record { members = l .members; ascending = l .ascending; none-of-zero = l .none-of-zero; first = l .first; rising = l .rising }
 
 -- the slot in whose list place j is
-pub record Owner (b : List ℕ) (j : ℕ) : Type 0 where
+pub record PlaceInList (b : List ℕ) (j : ℕ) : Type 0 where
   pub slot : ℕ
   pub from : 1 ≤ slot
   pub to : slot < slotCount b
   pub within : InList b slot j
 
--- the places of a list, by its width
-pub in-list : (b : List ℕ) (p j : ℕ) → InList b p j ↔ ((offset b p ≤ j) × (j < offset b p + listWidth b p))
-unfolding listWidth
-in-list b p j = (λ i. (i .from, omega (arith, i .from, i .to)), λ h. record { from = h .0; to = omega arith })
-
-module _ {b : List ℕ} (rows : Rows b) where
-  owner-below : (n j : ℕ) → n ≤ slotCount b → j < offset b n → Owner b j
-  owner-below zero j l h = absurd (omega (arith, rows .first))
-  owner-below (suc zero) j l h = absurd (omega (arith, rows .none-of-zero, rows .first))
-  owner-below (suc (suc n)) j l h = go (owner-below (suc n) j (omega arith)) (decLt j (offset b (suc n)))
+module _ {b : List ℕ} (sorted-lists : ListsSorted b) where
+  place-below : (n j : ℕ) → n ≤ slotCount b → j < offset b n → PlaceInList b j
+  place-below zero j l h = absurd (omega (arith, sorted-lists .first))
+  place-below (suc zero) j l h = absurd (omega (arith, sorted-lists .none-of-zero, sorted-lists .first))
+  place-below (suc (suc n)) j l h = go (place-below (suc n) j (omega arith)) (decLt j (offset b (suc n)))
     where
-      go : (j < offset b (suc n) → Owner b j) → Dec (j < offset b (suc n)) → Owner b j
+      go : (j < offset b (suc n) → PlaceInList b j) → Dec (j < offset b (suc n)) → PlaceInList b j
       go ih (yes k) = ih k
       go ih (no k) = record { slot = suc n; from = omega arith; to = omega arith; within = record { from = omega arith; to = rw (add-one (suc n)) h } }
 
-  pub owner : (j : ℕ) → j < offset b (slotCount b) → Owner b j
-  owner j h = owner-below (slotCount b) j (le-refl (slotCount b)) h
+  pub list-of-place : (j : ℕ) → j < offset b (slotCount b) → PlaceInList b j
+  list-of-place j h = place-below (slotCount b) j (le-refl (slotCount b)) h
 
   -- offsets rise from slot to slot
   offsets-rise : (p m : ℕ) → p + m ≤ slotCount b → offset b p ≤ offset b (p + m)
@@ -54,7 +49,7 @@ module _ {b : List ℕ} (rows : Rows b) where
   offsets-rise p (suc m) h =
       let e : p + suc m ≡ p + m + 1 = omega arith in
       let a = offsets-rise p m (omega arith) in
-      let c = rows .rising (p + m) (omega arith) in
+      let c = sorted-lists .rising (p + m) (omega arith) in
       rw e (omega arith)
 
   -- so a place in a list is a place of the array
@@ -66,12 +61,12 @@ module _ {b : List ℕ} (rows : Rows b) where
 
   module _ (p : ℕ) (f : 1 ≤ p) (t : p < slotCount b) where
     codes-rise : (i m : ℕ) → InList b p i → InList b p (i + suc m) → codeTo b p (child b i) < codeTo b p (child b (i + suc m))
-    codes-rise i zero u v = rows .ascending p i f t u v
+    codes-rise i zero u v = sorted-lists .ascending p i f t u v
     codes-rise i (suc m) u v =
         let w : InList b p (i + suc m) = record { from = omega (arith, u .from); to = omega (arith, v .to) } in
         let e : i + suc (suc m) ≡ i + suc m + 1 = omega arith in
         let c = codes-rise i m u w in
-        let a = rows .ascending p (i + suc m) f t w (rw e at v) in
+        let a = sorted-lists .ascending p (i + suc m) f t w (rw e at v) in
         rw e (omega arith)
 
     pub code-rises : (i j : ℕ) → InList b p i → InList b p j → i < j → codeTo b p (child b i) < codeTo b p (child b j)
@@ -89,8 +84,8 @@ module _ {b : List ℕ} (rows : Rows b) where
   -- no slot is listed twice
   pub children-differ : (i j : ℕ) → i < offset b (slotCount b) → j < offset b (slotCount b) → child b i ≡ child b j → i ≡ j
   children-differ i j h k e =
-      let o = owner i h in
-      let q = owner j k in
+      let o = list-of-place i h in
+      let q = list-of-place j k in
       let same : q .slot ≡ o .slot =
-      sym (rows .members (q .slot) j (q .from) (q .to) (q .within) .2) ∙ ap (parent b) (sym e) ∙ rows .members (o .slot) i (o .from) (o .to) (o .within) .2 in
+      sym (sorted-lists .members (q .slot) j (q .from) (q .to) (q .within) .2) ∙ ap (parent b) (sym e) ∙ sorted-lists .members (o .slot) i (o .from) (o .to) (o .within) .2 in
       listed-once (o .slot) (o .from) (o .to) i j (o .within) (rw same at (q .within)) e

@@ -9,11 +9,11 @@ use mathlib.Core.Bool.{Bool, true, false, cond, false≢true}
 use lib.ListN.{length}
 use Rattle.lxtr_spec.specs.Image.{slotFrom, codeTo, slotCount, isLeaf, hasLeaf, parent, valueNumber, codeOf}
 use Rattle.lxtr_spec.specs.Refusals.{ownCode}
-use Rattle.lxtr_spec.specs.Walks.{step, stepBy, walk, leafValue, valueAt, valueReached, exactAt}
+use Rattle.lxtr_spec.specs.Walks.{step, stepBy, walk, leafValue, valueAt, valueReached, valueOf}
 use Rattle.lxtr_laws.specs.Ranges.{tests}
 use Rattle.lxtr_laws.specs.Joining.{code-to-slot}
-use Rattle.lxtr_demands.specs.Laws.Facts.{ancestor}
-use Rattle.lxtr_demands.specs.Laws.Keys.{Last, empty, snoc, last, length-snoc}
+use Rattle.lxtr_laws.specs.Facts.{ancestor}
+use Rattle.lxtr_laws.specs.Keys.{Last, empty, snoc, last, length-snoc}
 
 -- t is the slot that code c reaches from slot n
 pub record Stepped (b : List ℕ) (n c t : ℕ) : Type 0 where
@@ -131,8 +131,8 @@ module _ (b : List ℕ) where
           let s = cond-some (isLeaf b (r .0)) (valueNumber b (r .0)) v .0 (r .2) in
           record { flag = f; slot = r .0; stepped = step-is n 0 (r .0) .0 (r .1); leaf = s .0; value = s .1 }
 
-  pub exact-is : (k : List ℕ) (v : ℕ) → (exactAt b k ≡ some v) ↔ ((n : ℕ) × (walk b 1 k ≡ some n) × Valued b n v)
-  unfolding exactAt valueReached
+  pub exact-is : (k : List ℕ) (v : ℕ) → (valueOf b k ≡ some v) ↔ ((n : ℕ) × (walk b 1 k ≡ some n) × Valued b n v)
+  unfolding valueOf valueReached
   exact-is k v = go (walk b 1 k)
     where
       go : (o : Option ℕ) → (valueReached b o ≡ some v) ↔ ((n : ℕ) × (o ≡ some n) × Valued b n v)
