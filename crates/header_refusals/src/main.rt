@@ -4,65 +4,18 @@ use libc::STDOUT_FILENO;
 use lxtr_image::header::header_refusal;
 
 // P1, the image of no keys: N is 2, E is 0, M is 5.
-const NO_KEYS: [u8; 57] = [
-    0x4C,
-    0x58,
-    0x54,
-    0x52,
-    3,
-    0,
-    0,
-    0, // `LXTR`, version, reserved
-    2,
-    0,
-    0,
-    0,
-    0,
-    0,
-    0,
-    0,
-    5,
-    0,
-    0,
-    0,
-    0,
-    0,
-    0,
-    0, // N, E, M, reserved
-    0,
-    0,
-    0,
-    0,
-    0,
-    0,
-    0,
-    0,
-    0,
-    0,
-    0,
-    0,
-    0,
-    0,
-    0,
-    0, // slots 0 and 1
-    0,
-    0,
-    0,
-    0,
-    0,
-    0,
-    0,
-    0,
-    0,
-    0,
-    0,
-    0, // offsets
-    1,
-    0,
-    0,
-    0,
-    0, // code map
-];
+fn no_keys() -> [u8; 57] {
+    let mut image = [0u8; 57];
+    image[0] = 0x4C;
+    image[1] = 0x58;
+    image[2] = 0x54;
+    image[3] = 0x52;
+    image[4] = 3;
+    image[8] = 2;
+    image[16] = 5;
+    image[52] = 1;
+    image
+}
 
 fn show(what: &[u8], image: &[u8]) {
     io::print_decimal(STDOUT_FILENO, header_refusal(image) as u64);
@@ -79,43 +32,43 @@ fn show_front(what: &[u8], image: &[u8], n: usize) {
 }
 
 // P1 with another byte at a place.
-fn one(at: usize, byte: u8) -> [u8; 57]
+fn with_byte(at: usize, byte: u8) -> [u8; 57]
     requires { ⌜ at < 57 ⌝ }
 {
-    let mut image = NO_KEYS;
+    let mut image = no_keys();
     image[at] = byte;
     image
 }
 
 // P1 with other bytes at two places.
-fn two(at: usize, byte: u8, at2: usize, byte2: u8) -> [u8; 57]
+fn with_two_bytes(at: usize, byte: u8, at2: usize, byte2: u8) -> [u8; 57]
     requires { ⌜ at < 57 ⌝ }
     requires { ⌜ at2 < 57 ⌝ }
 {
-    let mut image = NO_KEYS;
+    let mut image = no_keys();
     image[at] = byte;
     image[at2] = byte2;
     image
 }
 
 fn show_start() {
-    show(b"P1", &NO_KEYS);
-    show_front(b"no bytes", &NO_KEYS, 0);
-    show_front(b"23 bytes", &NO_KEYS, 23);
-    show_front(b"24 bytes", &NO_KEYS, 24);
-    show(b"first byte 6C", &one(0, 0x6C));
-    show(b"fourth byte 72", &one(3, 0x72));
-    show(b"version 2", &one(4, 2));
-    show(b"version 4", &one(4, 4));
-    show(b"byte 5 set", &one(5, 1));
-    show(b"byte 7 set", &one(7, 1));
-    show(b"byte 20 set", &one(20, 1));
-    show(b"byte 23 set", &one(23, 0x80));
+    show(b"P1", &no_keys());
+    show_front(b"no bytes", &no_keys(), 0);
+    show_front(b"23 bytes", &no_keys(), 23);
+    show_front(b"24 bytes", &no_keys(), 24);
+    show(b"first byte 6C", &with_byte(0, 0x6C));
+    show(b"fourth byte 72", &with_byte(3, 0x72));
+    show(b"version 2", &with_byte(4, 2));
+    show(b"version 4", &with_byte(4, 4));
+    show(b"byte 5 set", &with_byte(5, 1));
+    show(b"byte 7 set", &with_byte(7, 1));
+    show(b"byte 20 set", &with_byte(20, 1));
+    show(b"byte 23 set", &with_byte(23, 0x80));
 }
 
 // 28 + 12 N + 4 E + M is 57 in 32 bits, but not in more.
 fn wrapped_sum() -> [u8; 57] {
-    let mut image = NO_KEYS;
+    let mut image = no_keys();
     image[8] = 0;
     image[10] = 1;
     image[16] = 0x1D;
@@ -126,12 +79,15 @@ fn wrapped_sum() -> [u8; 57] {
 }
 
 fn show_sizes() {
-    show(b"N is 1", &one(8, 1));
-    show(b"N is 65,536, too long for the bytes", &two(8, 0, 10, 1));
-    show(b"N is 65,537", &two(8, 1, 10, 1));
-    show(b"E is 1, above N - 2", &one(12, 1));
-    show_front(b"one byte less", &NO_KEYS, 56);
-    show(b"M is 6", &one(16, 6));
+    show(b"N is 1", &with_byte(8, 1));
+    show(
+        b"N is 65,536, too long for the bytes",
+        &with_two_bytes(8, 0, 10, 1),
+    );
+    show(b"N is 65,537", &with_two_bytes(8, 1, 10, 1));
+    show(b"E is 1, above N - 2", &with_byte(12, 1));
+    show_front(b"one byte less", &no_keys(), 56);
+    show(b"M is 6", &with_byte(16, 6));
     show(b"a sum that is right only in 32 bits", &wrapped_sum());
 }
 
@@ -153,27 +109,27 @@ fn many_labels(m: u8, high: u8, low: u8) -> [u8; 16441] {
 }
 
 fn show_map() {
-    show_front(b"M is 4", &one(16, 4), 56);
-    show(b"map version 2", &one(52, 2));
-    show(b"L is 1, M is 5", &one(56, 1));
-    show(b"L is 256, or 1 read little-endian", &one(55, 1));
+    show_front(b"M is 4", &with_byte(16, 4), 56);
+    show(b"map version 2", &with_byte(52, 2));
+    show(b"L is 1, M is 5", &with_byte(56, 1));
+    show(b"L is 256, or 1 read little-endian", &with_byte(55, 1));
     show_front(
         b"L is 4,095, M is 5 + 4 * 4,095",
         &many_labels(1, 0x0F, 0xFF),
         16437,
     );
     show(b"L is 4,096, M is 5 + 4 * 4,096", &many_labels(5, 0x10, 0));
-    show(b"first offset 1", &one(40, 1));
-    show(b"last offset 1", &one(48, 1));
+    show(b"first offset 1", &with_byte(40, 1));
+    show(b"last offset 1", &with_byte(48, 1));
 }
 
 fn show_order() {
-    show(b"faults 2 and 3", &two(0, 0, 4, 0));
-    show(b"faults 3 and 4", &two(4, 0, 5, 1));
-    show(b"faults 4 and 5", &two(20, 1, 8, 1));
-    show(b"faults 5 and 6", &two(8, 1, 16, 6));
-    show(b"faults 6 and 7", &two(16, 6, 52, 2));
-    show(b"faults 7 and 8", &two(52, 2, 40, 1));
+    show(b"faults 2 and 3", &with_two_bytes(0, 0, 4, 0));
+    show(b"faults 3 and 4", &with_two_bytes(4, 0, 5, 1));
+    show(b"faults 4 and 5", &with_two_bytes(20, 1, 8, 1));
+    show(b"faults 5 and 6", &with_two_bytes(8, 1, 16, 6));
+    show(b"faults 6 and 7", &with_two_bytes(16, 6, 52, 2));
+    show(b"faults 7 and 8", &with_two_bytes(52, 2, 40, 1));
 }
 
 fn main() {
