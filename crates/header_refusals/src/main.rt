@@ -3,9 +3,9 @@ ghost use Prim.Native.Nat.{_<_};
 use libc::STDOUT_FILENO;
 use lxtr_image::header::header_refusal;
 
-// P1, the image of no keys: N is 2, E is 0, M is 5.
-fn no_keys() -> [u8; 57] {
-    let mut image = [0u8; 57];
+// P1, the image of no keys, in the first 57 bytes: N is 2, E is 0, M is 5. After it, room for 4,096 labels.
+fn no_keys() -> [u8; 16441] {
+    let mut image = [0u8; 16441];
     image[0] = 0x4C;
     image[1] = 0x58;
     image[2] = 0x54;
@@ -17,23 +17,28 @@ fn no_keys() -> [u8; 57] {
     image
 }
 
-fn show(what: &[u8], image: &[u8]) {
+fn print_refusal(what: &[u8], image: &[u8]) {
     io::print_decimal(STDOUT_FILENO, header_refusal(image) as u64);
     io::write_all(STDOUT_FILENO, b" ");
     io::write_all(STDOUT_FILENO, what);
     io::write_all(STDOUT_FILENO, b"\n");
 }
 
-// The same of the first n bytes.
+// The refusal of the first n bytes.
 fn show_front(what: &[u8], image: &[u8], n: usize) {
     if n <= image.len() {
-        show(what, &image[..n]);
+        print_refusal(what, &image[..n]);
     }
 }
 
+// The refusal of the first 57 bytes, as many as P1 has.
+fn show(what: &[u8], image: &[u8]) {
+    show_front(what, image, 57);
+}
+
 // P1 with another byte at a place.
-fn with_byte(at: usize, byte: u8) -> [u8; 57]
-    requires { ⌜ at < 57 ⌝ }
+fn with_byte(at: usize, byte: u8) -> [u8; 16441]
+    requires { ⌜ at < 16441 ⌝ }
 {
     let mut image = no_keys();
     image[at] = byte;
@@ -41,9 +46,9 @@ fn with_byte(at: usize, byte: u8) -> [u8; 57]
 }
 
 // P1 with other bytes at two places.
-fn with_two_bytes(at: usize, byte: u8, at2: usize, byte2: u8) -> [u8; 57]
-    requires { ⌜ at < 57 ⌝ }
-    requires { ⌜ at2 < 57 ⌝ }
+fn with_two_bytes(at: usize, byte: u8, at2: usize, byte2: u8) -> [u8; 16441]
+    requires { ⌜ at < 16441 ⌝ }
+    requires { ⌜ at2 < 16441 ⌝ }
 {
     let mut image = no_keys();
     image[at] = byte;
@@ -67,7 +72,7 @@ fn show_start() {
 }
 
 // 28 + 12 N + 4 E + M is 57 in 32 bits, but not in more.
-fn wrapped_sum() -> [u8; 57] {
+fn wrapped_sum() -> [u8; 16441] {
     let mut image = no_keys();
     image[8] = 0;
     image[10] = 1;
@@ -91,18 +96,11 @@ fn show_sizes() {
     show(b"a sum that is right only in 32 bits", &wrapped_sum());
 }
 
-// An image with M from 0x4000 and L below 0x10000, by their low bytes, with room for 4,096 labels.
+// P1 with M from 0x4000 and L below 0x10000, by their low bytes.
 fn many_labels(m: u8, high: u8, low: u8) -> [u8; 16441] {
-    let mut image = [0u8; 16441];
-    image[0] = 0x4C;
-    image[1] = 0x58;
-    image[2] = 0x54;
-    image[3] = 0x52;
-    image[4] = 3;
-    image[8] = 2;
+    let mut image = no_keys();
     image[16] = m;
     image[17] = 0x40;
-    image[52] = 1;
     image[55] = high;
     image[56] = low;
     image
@@ -118,7 +116,11 @@ fn show_map() {
         &many_labels(1, 0x0F, 0xFF),
         16437,
     );
-    show(b"L is 4,096, M is 5 + 4 * 4,096", &many_labels(5, 0x10, 0));
+    show_front(
+        b"L is 4,096, M is 5 + 4 * 4,096",
+        &many_labels(5, 0x10, 0),
+        16441,
+    );
     show(b"first offset 1", &with_byte(40, 1));
     show(b"last offset 1", &with_byte(48, 1));
 }

@@ -1,4 +1,5 @@
 -- Document 01's examples P1 to P11, as far as they are images, as one table: the definitions compute to what stands there.
+-- Not in the document, but beside its examples: the listings of P1 to P3, the last two rows of P5, and the numbers for the host program.
 use mathlib.Core.Path.{refl}
 use mathlib.Core.List.{List, [], _∷_}
 use mathlib.Core.Option.{some, none}

@@ -1,12 +1,12 @@
 -- Readings of document 01 that none of its examples shows: the order of refusals, the limit, and walks over images that pass 1 to 8 alone.
+use Prim.Native.Nat.{ℕ}
 use mathlib.Core.Path.{refl}
 use mathlib.Core.List.{List, [], _∷_}
 use mathlib.Core.Option.{some, none}
 use mathlib.Core.Bool.{false}
-use lib.ListN.{replicate}
+use lib.ListN.{replicate, set}
 use Rattle.lxtr_spec.specs.Words.{beWords}
-use Rattle.lxtr_spec.specs.Samples.{imageBytes, offsets3, children3, labels3, p3, p7, p9-labels, p9-longer}
-use Prim.Native.Nat.{ℕ}
+use Rattle.lxtr_spec.specs.Samples.{imageBytes, nodes3, offsets3, children3, labels3, p3, p7, p9-labels, p9-longer}
 use Rattle.lxtr_laws.specs.ExampleRows.{Example, refused, exact, prefixes, longest, probe, query-refused, completion-refused, AllHold, _and_, computing}
 
 -- slot 1 is its own child by code 1, and slot 0 its end: any number of labels 61 walks
@@ -15,16 +15,20 @@ own-child = imageBytes (0x80000005 ∷ 1 ∷ 0 ∷ 0x80000001 ∷ []) (0 ∷ 0 �
 
 unfoldable pub readings : List Example
 readings =
+    -- the searches: 6 before 13
     query-refused p9-longer (0 ∷ []) 6 ∷ query-refused p3 (0 ∷ []) 13
+    -- completion: 6, 13, 11, 14 in this order, and 14 for an absent prefix too
     ∷ completion-refused p9-longer (0 ∷ []) 4 6 ∷ completion-refused p7 (0 ∷ []) 4 13 ∷ completion-refused p7 [] 4 11 ∷ completion-refused p3 [] 4 14
     ∷ completion-refused p3 (beWords (0x78 ∷ [])) 4 14
+    -- the limit of 64 labels
     ∷ exact own-child (replicate 64 0x61) (some 5) 0x1_0000_0005 ∷ exact own-child (replicate 65 0x61) none 0
     ∷ longest own-child (replicate 66 0x61) (replicate 64 0x61)
     ∷ prefixes own-child (replicate 2 0x61) (0 ∷ 1 ∷ 2 ∷ []) (5 ∷ 5 ∷ 5 ∷ [])
     ∷ probe own-child (replicate 64 0x61) (some 5) false 0x1_0000_0005 ∷ probe own-child (replicate 65 0x61) none false 0
+    -- slot 0 not zero; then two faults at once: 9 and 10, 10 and 11, 11 and 12
     ∷ refused own-child 10
-    ∷ refused (imageBytes (0 ∷ 0 ∷ 2 ∷ 0 ∷ 0x80000001 ∷ 6 ∷ 4 ∷ 1 ∷ 0x80000000 ∷ 3 ∷ 0 ∷ 0 ∷ 2 ∷ 0x80000003 ∷ []) offsets3 children3 (0x6E ∷ 0x6E ∷ [])) 9
-    ∷ refused (imageBytes (0 ∷ 0 ∷ 2 ∷ 0 ∷ 0x80000001 ∷ 6 ∷ 4 ∷ 1 ∷ 0x80000000 ∷ 3 ∷ 0 ∷ 0 ∷ 2 ∷ 0x80000003 ∷ []) offsets3 (3 ∷ 4 ∷ 4 ∷ 2 ∷ []) labels3) 10
+    ∷ refused (imageBytes (set nodes3 7 1) offsets3 children3 (set labels3 1 0x6E)) 9
+    ∷ refused (imageBytes (set nodes3 7 1) offsets3 (set children3 2 4) labels3) 10
     ∷ refused (imageBytes (0 ∷ 0 ∷ 0 ∷ 0 ∷ 2 ∷ 3 ∷ 3 ∷ 2 ∷ []) (0 ∷ 0 ∷ 0 ∷ 1 ∷ 2 ∷ []) (2 ∷ 3 ∷ []) (0x61 ∷ [])) 11
     -- an end without HAS_LEAF; an end that is no leaf; a leaf has no steps; offsets that fall; a label that is not listed; one listed twice
     ∷ exact (imageBytes (0 ∷ 0 ∷ 2 ∷ 0 ∷ 0x80000005 ∷ 1 ∷ []) (0 ∷ 0 ∷ 1 ∷ 1 ∷ []) (2 ∷ []) []) [] none 0

@@ -1,7 +1,7 @@
 -- The images among document 01's examples.
 use Prim.Native.Nat.{ℕ, _+_, _*_, _/_}
 use mathlib.Core.List.{List, [], _∷_, _++_}
-use lib.ListN.{length}
+use lib.ListN.{length, set}
 use Rattle.lxtr_spec.specs.Words.{beBytes, leWords, beWords}
 use Rattle.lxtr_spec.specs.Image.{magic}
 
@@ -21,7 +21,7 @@ p1 = imageBytes (0 ∷ 0 ∷ 0 ∷ 0 ∷ []) (0 ∷ 0 ∷ 0 ∷ []) [] []
 unfoldable pub p2 : List ℕ
 p2 = imageBytes (0 ∷ 0 ∷ 2 ∷ 0x80000000 ∷ 0x80000000 ∷ 1 ∷ []) (0 ∷ 0 ∷ 1 ∷ 1 ∷ []) (2 ∷ []) []
 
--- P3: keys 6E and 6E 61
+-- P3: keys 6E and 6E 61; base and check of slot s are the words 2 s and 2 s + 1 of the nodes
 unfoldable pub nodes3 : List ℕ
 nodes3 = 0 ∷ 0 ∷ 2 ∷ 0 ∷ 0x80000001 ∷ 6 ∷ 4 ∷ 0x80000001 ∷ 0x80000000 ∷ 3 ∷ 0 ∷ 0 ∷ 2 ∷ 0x80000003 ∷ []
 
@@ -39,18 +39,18 @@ p3 = imageBytes nodes3 offsets3 children3 labels3
 
 -- P7: P3 with children 3 4 4 2
 unfoldable pub p7 : List ℕ
-p7 = imageBytes nodes3 offsets3 (3 ∷ 4 ∷ 4 ∷ 2 ∷ []) labels3
+p7 = imageBytes nodes3 offsets3 (set children3 2 4) labels3
 
 -- P8: P3 with slot 3's check 1; with slot 5 = (7,0)
 unfoldable pub p8-check : List ℕ
-p8-check = imageBytes (0 ∷ 0 ∷ 2 ∷ 0 ∷ 0x80000001 ∷ 6 ∷ 4 ∷ 1 ∷ 0x80000000 ∷ 3 ∷ 0 ∷ 0 ∷ 2 ∷ 0x80000003 ∷ []) offsets3 children3 labels3
+p8-check = imageBytes (set nodes3 7 1) offsets3 children3 labels3
 
 unfoldable pub p8-slot : List ℕ
-p8-slot = imageBytes (0 ∷ 0 ∷ 2 ∷ 0 ∷ 0x80000001 ∷ 6 ∷ 4 ∷ 0x80000001 ∷ 0x80000000 ∷ 3 ∷ 7 ∷ 0 ∷ 2 ∷ 0x80000003 ∷ []) offsets3 children3 labels3
+p8-slot = imageBytes (set nodes3 10 7) offsets3 children3 labels3
 
 -- P9: P3 with both labels 6E; one byte longer
 unfoldable pub p9-labels : List ℕ
-p9-labels = imageBytes nodes3 offsets3 children3 (0x6E ∷ 0x6E ∷ [])
+p9-labels = imageBytes nodes3 offsets3 children3 (set labels3 1 0x6E)
 
 unfoldable pub p9-longer : List ℕ
 p9-longer = p3 ++ 0 ∷ []
