@@ -11,6 +11,12 @@ pub mod Lengths
 pub mod Facts
 pub mod Keys
 pub mod Steps
+pub mod Stepping
+pub mod Queries
+pub mod Walking
+pub mod Matches
+pub mod Rows
+pub mod Searches
 pub mod Faults
 pub mod ExampleRows
 pub mod Examples

@@ -1,12 +1,14 @@
--- Tests of all numbers below a bound: what the outcome says of each number.
-use Prim.Native.Nat.{ℕ, zero, suc, _<_}
-use mathlib.Core.Path.{_≡_, refl}
+-- Tests of all numbers below a bound: what the outcome says of each number. And what a range gives, taken apart at its last number.
+use Prim.Native.Nat.{ℕ, zero, suc, _+_, _≤_, _<_}
+use mathlib.Core.Path.{_≡_, refl, sym, ap, _∙_}
 use mathlib.Core.Logic.{_↔_, _⊎_, inl, inr, ⊎-elim}
 use mathlib.Core.Bool.{Bool, true, false, _||_, false≢true}
-use native.Mathlib.Nat.{not-suc-le-zero}
+use mathlib.Core.List.{List, [], _++_, append-assoc, append-nil}
+use lib.ListN.{length, length-append}
+use native.Mathlib.Nat.{add-zero, not-suc-le-zero}
 use native.Mathlib.Omega.{arith}
 use native.Mathlib.Decide.{decLt}
-use Rattle.lxtr_spec.specs.Ranges.{anyBelow}
+use Rattle.lxtr_spec.specs.Ranges.{anyBelow, concatFrom}
 use Rattle.lxtr_laws.specs.Tests.{or-is-false, and-is-true, and-is-false, not-is-false, not-is-true, beq-is-true, ltb-is-true, ltb-is-false, leb-is-true, leb-is-false, eqb-is-true, eqb-is-false}
 
 -- a number below n + 1 is n or below n
@@ -53,3 +55,25 @@ any-true n f = (some-at f n, λ p. some-of f n (p .0) (p .1) (p .2))
 
 -- every law of a test's outcome, for `simp`
 pub ruleset tests = (or-is-false, and-is-true, and-is-false, not-is-false, not-is-true, beq-is-true, ltb-is-true, ltb-is-false, leb-is-true, leb-is-false, eqb-is-true, eqb-is-false, any-false)
+
+-- what a range gives
+module _ {A : Type 0} (f : ℕ → List A) where
+  -- one more number gives its part at the end
+  pub concat-more : (n j : ℕ) → concatFrom (suc n) j f ≡ concatFrom n j f ++ f (j + n)
+  unfolding concatFrom
+  concat-more zero j = rw (append-nil, add-zero)
+  concat-more (suc n) j =
+      let e : j + 1 + n ≡ j + suc n = omega arith in
+      ap (λ (l : List A). f j ++ l) (concat-more n (j + 1) ∙ ap (λ (k : ℕ). concatFrom n (j + 1) f ++ f k) e) ∙ sym (append-assoc (f j) (concatFrom n (j + 1) f) (f (j + suc n)))
+
+  -- numbers that give nothing add nothing
+  pub concat-none : (n m j : ℕ) → ((k : ℕ) → n ≤ k → f (j + k) ≡ []) → concatFrom (n + m) j f ≡ concatFrom n j f
+  concat-none n zero j h = rw add-zero
+  concat-none n (suc m) j h =
+      let e : n + suc m ≡ suc (n + m) = omega arith in
+      ap (λ (k : ℕ). concatFrom k j f) e ∙ concat-more (n + m) j ∙ rw (h (n + m) (omega arith), append-nil) (concat-none n m j h)
+
+  pub concat-length : (n j : ℕ) → ((k : ℕ) → length (f k) ≤ 1) → length (concatFrom n j f) ≤ n
+  unfolding concatFrom
+  concat-length zero j h = omega arith
+  concat-length (suc n) j h = omega (arith, length-append (f j) (concatFrom n (j + 1) f), h j, concat-length n (j + 1) h)

@@ -1,0 +1,107 @@
+-- What a loop keeps of the matches that it meets: the row that Prefixes answers, or the last length.
+-- One more match changes either as it changes the list of matches.
+use Prim.Native.Nat.{ℕ, zero, suc, _+_, _*_, _-_, _≤_, _<_}
+use mathlib.Core.Path.{_≡_, refl, sym, ap, _∙_}
+use mathlib.Core.List.{List, [], _∷_, _++_, map, map-append, append-assoc, append-nil}
+use mathlib.Core.Option.{Option, some, none}
+use native.Mathlib.Nat.{zero-add, le-refl}
+use native.Mathlib.Numerals.{add-one}
+use native.Mathlib.Omega.{arith}
+use lib.ListN.{length, take, set, replicate, length-append, length-map, length-take}
+use lib.Seq.{set-append-seam, length-take-le}
+use Rattle.lxtr_spec.specs.Ranges.{concatFrom}
+use Rattle.lxtr_spec.specs.Labels.{maxLabels, lengthCount, labelsOf}
+use Rattle.lxtr_spec.specs.Walks.{valueAt, valueOf}
+use Rattle.lxtr_spec.specs.Searches.{lengthMatch, matchAt, matches, prefixMatches, padded, matchLength, matchValue, prefixesAnswer, lastLength}
+use Rattle.lxtr_spec.specs.Answers.{found}
+use Rattle.lxtr_spec.specs.declared.Found.{Found}
+use Rattle.lxtr_spec.specs.declared.Prefixes.{Prefixes}
+use Rattle.lxtr_laws.specs.Codes.{more}
+use Rattle.lxtr_laws.specs.Ranges.{concat-more}
+use Rattle.lxtr_laws.specs.Queries.{label-count}
+use Rattle.lxtr_laws.specs.Walking.{Walked}
+use Rattle.lxtr_laws.specs.Matches.{counted, matchesTo, match-count, matches-start, matches-next}
+
+-- the row with a match of length k more, if there is a value
+abbrev pub withMatch : Prefixes → ℕ → Option ℕ → Prefixes
+withMatch row k none = row
+withMatch row k (some v) = record { refusal = row .refusal; count = row .count + 1; lengths = set (row .lengths) (row .count) k; values = set (row .values) (row .count) v }
+
+-- length k if it has a value, otherwise the one before
+abbrev pub laterLength : ℕ → ℕ → Option ℕ → ℕ
+laterLength before k none = before
+laterLength before k (some v) = k
+
+padded-set : (xs : List ℕ) (v : ℕ) → length xs < lengthCount → set (padded xs) (length xs) v ≡ padded (xs ++ v ∷ [])
+padded-set xs v h = rw (length-append, append-assoc, more lengthCount (length xs) h, set-append-seam)
+
+cell : (f : ℕ × ℕ → ℕ) (ms : List (ℕ × ℕ)) (m : ℕ × ℕ) → length ms < lengthCount → set (padded (map f ms)) (length ms) (f m) ≡ padded (map f (ms ++ m ∷ []))
+cell f ms m h =
+    ap (λ (n : ℕ). set (padded (map f ms)) n (f m)) (sym (length-map ms f))
+    ∙ padded-set (map f ms) (f m) (omega (arith, length-map ms f))
+    ∙ ap (λ (xs : List ℕ). padded xs) (sym (map-append f ms (m ∷ [])))
+
+row-more : (r k : ℕ) (o : Option ℕ) (ms : List (ℕ × ℕ)) → length ms < lengthCount → withMatch (prefixesAnswer r ms) k o ≡ prefixesAnswer r (ms ++ lengthMatch k o)
+unfolding prefixesAnswer lengthMatch
+row-more r k none ms h = rw append-nil
+row-more r k (some v) ms h =
+    λ i. record { refusal = r; count = sym (length-append ms ((k, v) ∷ [])) i; lengths = cell matchLength ms (k, v) h i; values = cell matchValue ms (k, v) h i }
+
+last-more : (ms : List (ℕ × ℕ)) (k : ℕ) (o : Option ℕ) → lastLength (ms ++ lengthMatch k o) ≡ laterLength (lastLength ms) k o
+unfolding lastLength lengthMatch
+last-more [] k none = refl
+last-more [] k (some v) = refl
+last-more (m ∷ []) k none = refl
+last-more (m ∷ []) k (some v) = refl
+last-more (m ∷ l ∷ ms) k o = last-more (l ∷ ms) k o
+
+later-within : (before k n : ℕ) (o : Option ℕ) → before ≤ n → k ≤ n → laterLength before k o ≤ n
+later-within before k n none h l = h
+later-within before k n (some v) h l = l
+
+-- no length is above the last that was tried
+module _ (f : List ℕ → Option ℕ) (xs : List ℕ) where
+  last-tried : (n : ℕ) → lastLength (concatFrom n 0 (matchAt f xs)) ≤ n → lastLength (concatFrom (suc n) 0 (matchAt f xs)) ≤ n
+  unfolding matchAt
+  last-tried n h = rw (concat-more (matchAt f xs) n 0, zero-add, last-more) (later-within (lastLength (concatFrom n 0 (matchAt f xs))) n n (f (take n xs)) h (le-refl n))
+
+  last-up-to : (n : ℕ) → lastLength (concatFrom n 0 (matchAt f xs)) ≤ n
+  unfolding concatFrom lastLength
+  last-up-to zero = le-refl 0
+  last-up-to (suc n) = omega (arith, last-tried n (last-up-to n))
+
+module _ (b q : List ℕ) where
+  -- the longest match is a part of the query
+  longest-within : 4 * lastLength (prefixMatches b q) ≤ length q
+  unfolding prefixMatches matches
+  longest-within =
+      let n = length (counted q) in
+      let h = last-tried (valueOf b) (counted q) n (last-up-to (valueOf b) (counted q) n) in
+      omega (arith, rw (← (add-one n)) at h, length-take maxLabels (labelsOf q), label-count q)
+
+  pub longest-part : (n : ℕ) → n ≡ lastLength (prefixMatches b q) → 4 * n ≡ length (take (4 * n) q)
+  longest-part n e = sym (length-take-le (4 * n) q (rw e longest-within))
+
+  pub row-empty : (row : Prefixes) → row ≡ prefixesAnswer 0 [] → row .count < lengthCount
+  unfolding prefixesAnswer
+  row-empty row e = rw e (omega arith)
+
+  -- the first slot's match
+  pub row-start : (first row : Prefixes) (f : Found) → Walked b (counted q) 0 1 → first ≡ prefixesAnswer 0 [] → found f ≡ valueAt b 1 → row ≡ withMatch first 0 (found f)
+      → row ≡ prefixesAnswer 0 (matchesTo b q 0)
+  row-start first row f w e g r = rw (r, g, e, row-more 0 0 (valueAt b 1) [] (omega arith), matches-start b q w)
+
+  -- of a loop's turn
+  module _ (i t : ℕ) (f : Found) (w : Walked b (counted q) (i + 1) t) (value : found f ≡ valueAt b t) where
+    pub row-next : (row next : Prefixes) → row ≡ prefixesAnswer 0 (matchesTo b q i) → next ≡ withMatch row (i + 1) (found f) → next ≡ prefixesAnswer 0 (matchesTo b q (i + 1))
+    row-next row next e g = rw (g, e, value, row-more 0 (i + 1) (valueAt b t) (matchesTo b q i) (omega (arith, match-count b q i, w .so-far, length-take maxLabels (labelsOf q))), matches-next b q i t w)
+
+    pub last-next : (longest next : ℕ) → longest ≡ lastLength (matchesTo b q i) → next ≡ laterLength longest (i + 1) (found f) → next ≡ lastLength (matchesTo b q (i + 1))
+    last-next longest next e g = rw (g, e, value, matches-next b q i t w, last-more)
+
+  pub row-room : (row : Prefixes) (m i : ℕ) → row ≡ prefixesAnswer 0 (matchesTo b q i) → m ≡ length (counted q) → i < m → row .count < lengthCount
+  unfolding prefixesAnswer
+  row-room row m i e c h = rw e (omega (arith, match-count b q i, length-take maxLabels (labelsOf q)))
+
+  pub last-start : 0 ≡ lastLength (matchesTo b q 0)
+  last-start = omega (arith, last-tried (valueOf b) (counted q) 0 (last-up-to (valueOf b) (counted q) 0))

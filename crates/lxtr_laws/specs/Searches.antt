@@ -1,0 +1,93 @@
+-- The searches as the code makes them: first the refusals, and then an answer that is the definition's.
+-- r is the refusal that a call answered.
+use Prim.Native.Nat.{ℕ, zero, suc, _*_, _%_}
+use mathlib.Core.Path.{_≡_, refl, sym, ap, _∙_}
+use mathlib.Core.List.{List, []}
+use mathlib.Core.Option.{Option, none}
+use mathlib.Core.Bool.{Bool, false}
+use native.Mathlib.Omega.{arith}
+use lib.ListN.{length, take}
+use borrow.Author.Tests.{eq-eqb, ne-eqb}
+use Rattle.lxtr_spec.specs.Labels.{labelsOf}
+use Rattle.lxtr_spec.specs.Refusals.{refuseIf, firstRefusal, unlessRefused, headerRefusal}
+use Rattle.lxtr_spec.specs.Walks.{walkWithin, valueAt, longerAt}
+use Rattle.lxtr_spec.specs.Searches.{queryRefusal, searchRefusal, ExactAnswer, exactValue, exactOf, prefixMatches, prefixesAnswer, prefixesOf, LongestAnswer, lastLength, longestLength, longestOf, ProbeAnswer, probeAnswer, probeAt, probeOf}
+use Rattle.lxtr_spec.specs.Answers.{found}
+use Rattle.lxtr_spec.specs.declared.Found.{Found}
+use Rattle.lxtr_spec.specs.declared.Found.the-variants.{Is, Nothing}
+use Rattle.lxtr_spec.specs.declared.Prefixes.{Prefixes}
+use Rattle.lxtr_laws.specs.Refusing.{none-first}
+use Rattle.lxtr_laws.specs.Passed.{Passed, header-passed}
+
+-- a refusal stands in front of what comes after it
+first-stands : (n later : ℕ) → (n ≡ 0 → ⊥) → firstRefusal n later ≡ n
+unfolding firstRefusal
+first-stands zero later h = absurd (h refl)
+first-stands (suc n) later h = refl
+
+-- and in place of an answer
+stands {ℓ} : {A : Type ℓ} (n : ℕ) (answer other : A) → (n ≡ 0 → ⊥) → unlessRefused n answer other ≡ other
+unfolding unlessRefused
+stands zero answer other h = absurd (h refl)
+stands (suc n) answer other h = refl
+
+module _ (b q : List ℕ) (r : ℕ) where
+  module _ (header : r ≡ headerRefusal b) where
+    pub header-stands : (r ≡ 0 → ⊥) → r ≡ searchRefusal b q
+    unfolding searchRefusal
+    header-stands h = rw (← header) (sym (first-stands r (queryRefusal q) h))
+
+    pub query-refused : r ≡ 0 → (length q % 4 ≡ 0 → ⊥) → 13 ≡ searchRefusal b q
+    unfolding searchRefusal queryRefusal refuseIf firstRefusal
+    query-refused z h = rw (sym header ∙ z, ne-eqb (length q % 4) 0 h)
+
+    pub none-refused-yet : r ≡ 0 → length q % 4 ≡ 0 → 0 ≡ searchRefusal b q
+    unfolding searchRefusal queryRefusal refuseIf firstRefusal
+    none-refused-yet z h = rw (sym header ∙ z, eq-eqb (length q % 4) 0 h)
+
+  module _ (known : r ≡ searchRefusal b q) where
+    pub search-passed : r ≡ 0 → Passed b
+    unfolding searchRefusal
+    search-passed z = header-passed (none-first (headerRefusal b) (queryRefusal q) .0 (sym known ∙ z) .0)
+
+    -- the answers after a refusal
+    module _ (h : r ≡ 0 → ⊥) where
+      pub exact-refused : _≡_ {A = ExactAnswer} (record { refusal = r; value = none }) (exactOf b q)
+      unfolding exactOf
+      exact-refused = rw (← known, stands r (exactValue b (labelsOf q)) none h)
+
+      pub prefixes-refused : (row : Prefixes) → row ≡ prefixesAnswer r [] → row ≡ prefixesOf b q
+      unfolding prefixesOf
+      prefixes-refused row e = rw (← known, stands r (prefixMatches b q) [] h) e
+
+      pub longest-refused : _≡_ {A = LongestAnswer} (record { refusal = r; part = take 0 q }) (longestOf b q)
+      unfolding longestOf longestLength
+      longest-refused = rw (← known, stands r (lastLength (prefixMatches b q)) 0 h)
+
+      pub probe-refused : _≡_ {A = ProbeAnswer} (record { refusal = r; value = none; longer = false }) (probeOf b q)
+      unfolding probeOf probeAnswer
+      probe-refused = rw (← known, stands r (probeAt b (walkWithin b (labelsOf q))) (probeAnswer r none false) h)
+
+    -- and without one
+    module _ (z : r ≡ 0) where
+      pub exact-passed : (f : Found) → found f ≡ exactValue b (labelsOf q) → _≡_ {A = ExactAnswer} (record { refusal = 0; value = found f }) (exactOf b q)
+      unfolding exactOf unlessRefused
+      exact-passed f e = rw (sym known ∙ z, e)
+
+      pub prefixes-passed : (row : Prefixes) → row ≡ prefixesAnswer 0 (prefixMatches b q) → row ≡ prefixesOf b q
+      unfolding prefixesOf unlessRefused
+      prefixes-passed row e = rw (sym known ∙ z) e
+
+      pub longest-passed : (n : ℕ) → n ≡ lastLength (prefixMatches b q) → _≡_ {A = LongestAnswer} (record { refusal = r; part = take (4 * n) q }) (longestOf b q)
+      unfolding longestOf longestLength unlessRefused
+      longest-passed n e = rw (z, sym known ∙ z, e)
+
+      module _ (f : Found) (walked : found f ≡ walkWithin b (labelsOf q)) where
+        pub probe-nowhere : f ≡ Nothing → _≡_ {A = ProbeAnswer} (record { refusal = 0; value = none; longer = false }) (probeOf b q)
+        unfolding probeOf probeAt probeAnswer unlessRefused
+        probe-nowhere h = rw (sym known ∙ z, sym walked ∙ ap found h)
+
+        pub probe-reached : (n : ℕ) (v : Found) (l : Bool) → f ≡ Is n → found v ≡ valueAt b n → l ≡ longerAt b n
+            → _≡_ {A = ProbeAnswer} (record { refusal = 0; value = found v; longer = l }) (probeOf b q)
+        unfolding probeOf probeAt probeAnswer unlessRefused
+        probe-reached n v l h e k = rw (sym known ∙ z, sym walked ∙ ap found h, e, k)

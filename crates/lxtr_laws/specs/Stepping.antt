@@ -1,0 +1,81 @@
+-- A step and a value as the code finds them, test by test. Results of calls are variables, so that a proof can cite a law
+-- without saying where in the code they come from.
+use Prim.Native.Nat.{ℕ, _<_}
+use mathlib.Core.Path.{_≡_, sym, ap, _∙_}
+use mathlib.Core.List.{List}
+use mathlib.Core.Option.{Option, some, none}
+use mathlib.Core.Bool.{Bool, true, false, not, _&&_}
+use lib.Dec.{ltb, eqb}
+use Rattle.lxtr_spec.specs.Image.{slotCount, isLeaf, hasLeaf, parent, valueNumber, slotFrom, listWidth, codeOf}
+use Rattle.lxtr_spec.specs.Walks.{step, stepBy, leafValue, valueAt, longerAt}
+use Rattle.lxtr_spec.specs.Answers.{found}
+use Rattle.lxtr_spec.specs.declared.Found.{Found}
+use Rattle.lxtr_spec.specs.declared.Found.the-variants.{Is, Nothing}
+use Rattle.lxtr_laws.specs.Tests.{outcome, not-is-true, not-is-false}
+use Rattle.lxtr_laws.specs.Steps.{step-is}
+
+-- the step by code c from slot n
+module _ (b : List ℕ) (n c : ℕ) where
+  -- l is whether n is a leaf
+  module _ (l : Bool) (leaf : l ≡ isLeaf b n) where
+    pub step-from-leaf : l ≡ true → none ≡ step b n c
+    unfolding step
+    step-from-leaf h = rw (outcome l _ _ leaf h)
+
+    -- t is the slot that the code joins to n; r is whether it exists and has n as parent
+    module _ (t : ℕ) (r : Bool) (inner : l ≡ false) (at : t ≡ slotFrom b n c) (child : r ≡ (ltb t (slotCount b) && eqb (parent b t) n)) where
+      same-test : r ≡ (not (isLeaf b n) && ltb (slotFrom b n c) (slotCount b) && eqb (parent b (slotFrom b n c)) n)
+      same-test = rw (outcome l _ _ leaf inner, ← at) child
+
+      pub step-to-other : not r ≡ true → none ≡ step b n c
+      unfolding step
+      step-to-other h = rw (outcome r _ _ same-test (not-is-true r .0 h))
+
+      pub step-to-child : not r ≡ false → some t ≡ step b n c
+      unfolding step
+      step-to-child h = rw (outcome r _ _ same-test (not-is-false r .0 h), at)
+
+  -- f is what the step answered
+  pub step-below : (f : Found) (t : ℕ) → found f ≡ step b n c → f ≡ Is t → t < slotCount b
+  step-below f t e h = step-is b n c t .0 (sym e ∙ ap found h) .below
+
+-- a step by label x, for which the code map answered f
+module _ (b : List ℕ) (n x : ℕ) (f : Found) (code : found f ≡ codeOf b x) where
+  pub step-unlisted : f ≡ Nothing → none ≡ stepBy b n x
+  unfolding stepBy
+  step-unlisted h = rw (stepBy, sym code ∙ ap found h)
+
+  pub step-listed : (c : ℕ) (r : Found) → f ≡ Is c → found r ≡ step b n c → found r ≡ stepBy b n x
+  unfolding stepBy
+  step-listed c r h e = rw (stepBy, sym code ∙ ap found h, e)
+
+-- the value at slot n, whose HAS_LEAF is h
+module _ (b : List ℕ) (n : ℕ) (h : Bool) (flag : h ≡ hasLeaf b n) where
+  pub value-no-flag : not h ≡ true → none ≡ valueAt b n
+  unfolding valueAt
+  value-no-flag k = rw (valueAt, outcome h _ _ flag (not-is-true h .0 k))
+
+  -- f is what the step by 0 answered
+  module _ (f : Found) (set : not h ≡ false) (end : found f ≡ step b n 0) where
+    pub value-no-end : f ≡ Nothing → none ≡ valueAt b n
+    unfolding valueAt
+    value-no-end k = rw (valueAt, outcome h _ _ flag (not-is-false h .0 set), sym end ∙ ap found k)
+
+    module _ (t : ℕ) (l : Bool) (is : f ≡ Is t) (leaf : l ≡ isLeaf b t) where
+      pub value-no-leaf : not l ≡ true → none ≡ valueAt b n
+      unfolding valueAt leafValue
+      value-no-leaf k = rw (valueAt, outcome h _ _ flag (not-is-false h .0 set), sym end ∙ ap found is, outcome l _ _ leaf (not-is-true l .0 k))
+
+      pub value-at-leaf : (v : ℕ) → not l ≡ false → v ≡ valueNumber b t → some v ≡ valueAt b n
+      unfolding valueAt leafValue
+      value-at-leaf v k e = rw (valueAt, outcome h _ _ flag (not-is-false h .0 set), sym end ∙ ap found is, outcome l _ _ leaf (not-is-false l .0 k), e)
+
+-- whether longer keys exist at slot n, whose HAS_LEAF is h and whose list has width w
+module _ (b : List ℕ) (n : ℕ) (h : Bool) (w : ℕ) (flag : h ≡ hasLeaf b n) (width : w ≡ listWidth b n) where
+  pub longer-ended : h ≡ true → ltb 1 w ≡ longerAt b n
+  unfolding longerAt
+  longer-ended k = rw (outcome h _ _ flag k, width)
+
+  pub longer-unended : h ≡ false → ltb 0 w ≡ longerAt b n
+  unfolding longerAt
+  longer-unended k = rw (outcome h _ _ flag k, width)

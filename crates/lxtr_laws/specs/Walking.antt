@@ -1,0 +1,113 @@
+-- A walk as a loop makes it: n is the slot that the first i of the labels xs reach.
+-- Where the step by the next label fails, no longer front part of xs reaches a slot.
+use Prim.Native.Nat.{ℕ, _+_, _≤_, _<_}
+use mathlib.Core.Path.{_≡_, refl, sym, ap, _∙_}
+use mathlib.Core.List.{List, [], _∷_, _++_}
+use mathlib.Core.Option.{Option, some, none}
+use mathlib.Core.Bool.{Bool, true, false, cond}
+use native.Mathlib.Numerals.{add-one}
+use native.Mathlib.Omega.{arith}
+use lib.ListN.{length, getD, take, drop, take-append-drop}
+use lib.Dec.{ltb}
+use lib.Seq.{take-suc, take-take, take-all, take-length}
+use Rattle.lxtr_spec.specs.Image.{slotCount}
+use Rattle.lxtr_spec.specs.Labels.{maxLabels}
+use Rattle.lxtr_spec.specs.Walks.{stepBy, walk, walkWithin, valueAt, valueReached}
+use Rattle.lxtr_spec.specs.Searches.{exactValue}
+use Rattle.lxtr_spec.specs.Answers.{found}
+use Rattle.lxtr_spec.specs.declared.Found.{Found}
+use Rattle.lxtr_spec.specs.declared.Found.the-variants.{Is, Nothing}
+use borrow.Author.Tests.{lt-ltb, le-ltb}
+use Rattle.lxtr_laws.specs.Passed.{Passed}
+use Rattle.lxtr_laws.specs.Keys.{Last, empty, snoc, last}
+use Rattle.lxtr_laws.specs.Steps.{none-not-some, some-same, step-by-is, walk-empty, walk-append, walk-snoc}
+
+pub record Walked (b xs : List ℕ) (i n : ℕ) : Type 0 where
+  pub so-far : i ≤ length xs
+  pub below : n < slotCount b
+  pub reached : walk b 1 (take i xs) ≡ some n
+
+-- what an answer that was matched on says
+pub found-is : (f : Found) (t : ℕ) (o : Option ℕ) → found f ≡ o → f ≡ Is t → o ≡ some t
+found-is f t o e r = sym e ∙ ap found r
+
+pub found-none : (f : Found) (o : Option ℕ) → found f ≡ o → f ≡ Nothing → o ≡ none
+found-none f o e r = sym e ∙ ap found r
+
+-- what cannot be found is not there
+is-none : (o : Option ℕ) → ((t : ℕ) → o ≡ some t → ⊥) → o ≡ none
+is-none none h = refl
+is-none (some t) h = absurd (h t refl)
+
+module _ (b xs : List ℕ) where
+  pub walked-start : Passed b → Walked b xs 0 1
+  walked-start p = record { so-far = omega arith; below = omega (arith, p .whole .sized .slots-from); reached = walk-empty b 1 .1 refl }
+
+  module _ (m i n : ℕ) (count : m ≡ length xs) (w : Walked b xs i n) where
+    pub walked-place : i < m → i < length xs
+    walked-place h = omega arith
+
+    -- the step by the next label x, which answered f
+    module _ (x : ℕ) (f : Found) (turn : i < m) (label : x ≡ getD xs i 0) (answer : found f ≡ stepBy b n x) where
+      one-more : take (i + 1) xs ≡ take i xs ++ x ∷ []
+      one-more = rw label (ap (λ (k : ℕ). take k xs) (add-one i) ∙ take-suc xs i 0 (omega arith))
+
+      pub walked-next : (t : ℕ) → f ≡ Is t → Walked b xs (i + 1) t
+      walked-next t r =
+          let s = step-by-is b n x t .0 (found-is f t (stepBy b n x) answer r) in
+          let e = walk-snoc b (take i xs) x t .1 (record { slot = n; code = s .0; walked = w .reached; coded = s .1; stepped = s .2 }) in
+          record { so-far = omega arith; below = s .2 .below; reached = rw one-more e }
+
+      stays : stepBy b n x ≡ none → (t : ℕ) → walk b 1 (take (i + 1) xs) ≡ some t → ⊥
+      stays e t g =
+          let r = walk-snoc b (take i xs) x t .0 (rw one-more at g) in
+          let same : r .slot ≡ n = some-same (sym (r .walked) ∙ w .reached) in
+          none-not-some (sym e ∙ step-by-is b n x t .1 (r .code, r .coded, rw same at (r .stepped)))
+
+      pub walked-stop : f ≡ Nothing → (k : ℕ) → i < k → walk b 1 (take k xs) ≡ none
+      walked-stop r k h = is-none (walk b 1 (take k xs)) (λ t e.
+          let rest = drop (i + 1) (take k xs) in
+          let split : take k xs ≡ take (i + 1) xs ++ rest = sym (take-append-drop (i + 1) (take k xs)) ∙ ap (λ (p : List ℕ). p ++ rest) (take-take (i + 1) k xs (omega arith)) in
+          let g = walk-append b 1 (take (i + 1) xs) rest t .0 (sym (ap (walk b 1) split) ∙ e) in
+          stays (found-none f (stepBy b n x) answer r) (g .0) (g .1))
+
+      pub walk-stopped : f ≡ Nothing → none ≡ walk b 1 xs
+      walk-stopped r = sym (rw take-length at (walked-stop r (length xs) (omega arith)))
+
+    pub walk-ended : m ≤ i → some n ≡ walk b 1 xs
+    walk-ended h = sym (w .reached) ∙ ap (walk b 1) (take-all i xs (omega arith))
+
+-- the slot that a walk reaches is one of the image's
+walk-below : (b p : List ℕ) → Passed b → Last p → (t : ℕ) → walk b 1 p ≡ some t → t < slotCount b
+walk-below b p ok empty t e = omega (arith, walk-empty b t .0 e, ok .whole .sized .slots-from)
+walk-below b p ok (snoc q x l) t e = walk-snoc b q x t .0 e .stepped .below
+
+within-some : (b xs : List ℕ) (t : ℕ) (long : Bool) → cond long none (walk b 1 xs) ≡ some t → walk b 1 xs ≡ some t
+within-some b xs t true e = absurd (none-not-some e)
+within-some b xs t false e = e
+
+-- the walk within the limit
+module _ (b xs : List ℕ) where
+  -- m is how many labels there are
+  module _ (m : ℕ) (count : m ≡ length xs) where
+    pub walk-too-long : maxLabels < m → none ≡ walkWithin b xs
+    unfolding walkWithin
+    walk-too-long h = rw (← count, lt-ltb maxLabels m h)
+
+    pub walk-short : (f : Found) → m ≤ maxLabels → found f ≡ walk b 1 xs → found f ≡ walkWithin b xs
+    unfolding walkWithin
+    walk-short f h e = rw (← count, le-ltb maxLabels m h) e
+
+  -- f is what it answered
+  module _ (f : Found) (answer : found f ≡ walkWithin b xs) where
+    pub within-below : (n : ℕ) → Passed b → f ≡ Is n → n < slotCount b
+    unfolding walkWithin
+    within-below n ok h = walk-below b xs ok (last xs) n (within-some b xs n (ltb maxLabels (length xs)) (found-is f n (walkWithin b xs) answer h))
+
+    pub exact-nowhere : f ≡ Nothing → none ≡ exactValue b xs
+    unfolding exactValue valueReached
+    exact-nowhere h = rw (found-none f (walkWithin b xs) answer h)
+
+    pub exact-reached : (n : ℕ) (v : Found) → f ≡ Is n → found v ≡ valueAt b n → found v ≡ exactValue b xs
+    unfolding exactValue valueReached
+    exact-reached n v h e = rw (found-is f n (walkWithin b xs) answer h, e)

@@ -1,0 +1,20 @@
+-- A refusal alone; none and no where the walk fails; otherwise what is found at its slot.
+use borrow.Author.Needs.{needs}
+use Rattle.lxtr_laws.specs.Walking.{within-below}
+use Rattle.lxtr_laws.specs.Searches.{search-passed, probe-refused, probe-nowhere, probe-reached}
+use Rattle.lxtr_search.proofs.probe.Statement.{statement}
+use Rattle.lxtr_search.proofs.probe.Tie as tie
+
+pub probe-spec : {M : Type 1} → statement M
+probe-spec =
+    tie.close
+    (tie.spec
+    (λ c κs. search needs)
+    (λ c. search probe-refused)
+    (λ c κs. search search-passed)
+    (λ c. search needs)
+    (λ c. search needs)
+    (λ c. search probe-nowhere)
+    (λ c κs. (search search-passed, search (within-below, search-passed)))
+    (λ c κs. (search search-passed, search (within-below, search-passed)))
+    (λ c. search probe-reached))

@@ -1,0 +1,102 @@
+// Searches LXTR images: exact match, prefixes, longest match and probe, for any bytes as image and query.
+// They walk every image that passes refusals 1 to 8, whether or not the check would accept it.
+ghost use mathlib.Core.Path.{_≡_};
+ghost use Rattle.lxtr_spec.specs.Searches.{exactValue, exactOf, prefixesOf, longestOf, probeAt, probeOf};
+ghost use Rattle.lxtr_spec.specs.Labels.{labelsOf};
+ghost use Rattle.lxtr_spec.specs.Walks.{walkWithin};
+ghost use Rattle.lxtr_spec.specs.Answers.{found, exactMeans, probeMeans};
+ghost use Rattle.lxtr_laws.specs.Passed.{Passed};
+use lxtr_spec::Exact;
+use lxtr_spec::Found;
+use lxtr_spec::Prefixes;
+use lxtr_spec::Probe;
+
+pub mod query; // the labels of a query, and the refusals before a search
+pub mod walk; // one step, the walk, and what is found where it ends
+pub mod matches; // the prefixes of a query that have a value
+
+use crate::matches::longest_match;
+use crate::matches::no_matches;
+use crate::matches::prefix_matches;
+use crate::query::search_refusal;
+use crate::walk::longer_at;
+use crate::walk::value_at;
+use crate::walk::walk_within;
+
+// The value of the whole query, in an image that passed.
+fn exact_value(image: &[u8], query: &[u8]) -> Found
+    requires { ⌜ Passed (now image) ⌝ }
+    ensures { λ r. ⌜ found r ≡ exactValue (now (image .entry)) (labelsOf (now (query .entry))) ⌝ }
+{
+    let Found::Is(n) = walk_within(image, query) else {
+        return Found::Nothing;
+    };
+    value_at(image, n)
+}
+
+// The value number of the key that the query is, or none.
+pub fn exact(image: &[u8], query: &[u8]) -> Exact
+    ensures { λ r. ⌜ exactMeans r ≡ exactOf (now (image .entry)) (now (query .entry)) ⌝ }
+{
+    let refusal = search_refusal(image, query);
+    if refusal != 0 {
+        return Exact {
+            refusal,
+            value: Found::Nothing,
+        };
+    }
+    Exact {
+        refusal: 0,
+        value: exact_value(image, query),
+    }
+}
+
+// Length and value of each prefix of the query that is a key, shortest first.
+pub fn prefixes(image: &[u8], query: &[u8]) -> Prefixes
+    ensures { λ r. ⌜ r ≡ prefixesOf (now (image .entry)) (now (query .entry)) ⌝ }
+{
+    let refusal = search_refusal(image, query);
+    if refusal != 0 {
+        return no_matches(refusal);
+    }
+    prefix_matches(image, query)
+}
+
+// The longest of these prefixes, as the front part of the lent query; empty if there is none.
+pub fn longest<'a>(image: &[u8], query: &'a [u8], refusal: &mut u8) -> &'a [u8]
+    ensures { λ r. ⌜ record { refusal = now (refusal .exit); part = now r } ≡ longestOf (now (image .entry)) (now (query .entry)) ⌝ }
+{
+    let k = search_refusal(image, query);
+    *refusal = k;
+    if k != 0 {
+        return &query[..0];
+    }
+    let end = 4 * longest_match(image, query) as usize;
+    &query[..end]
+}
+
+// The value of the query, or none, and whether longer keys begin with it.
+pub fn probe(image: &[u8], query: &[u8]) -> Probe
+    ensures { λ r. ⌜ probeMeans r ≡ probeOf (now (image .entry)) (now (query .entry)) ⌝ }
+{
+    let refusal = search_refusal(image, query);
+    if refusal != 0 {
+        return Probe {
+            refusal,
+            value: Found::Nothing,
+            longer: false,
+        };
+    }
+    let Found::Is(n) = walk_within(image, query) else {
+        return Probe {
+            refusal: 0,
+            value: Found::Nothing,
+            longer: false,
+        };
+    };
+    Probe {
+        refusal: 0,
+        value: value_at(image, n),
+        longer: longer_at(image, n),
+    }
+}

@@ -1,0 +1,121 @@
+// The walk over an image that passed refusals 1 to 8: one step, the walk of a query, and what is found where it ends.
+ghost use mathlib.Core.Path.{_≡_};
+ghost use mathlib.Core.Bool.{_&&_};
+ghost use Prim.Native.Nat.{_<_};
+ghost use lib.Dec.{ltb, eqb};
+ghost use Rattle.lxtr_spec.specs.Labels.{labelsOf};
+ghost use Rattle.lxtr_spec.specs.Image.{slotCount, parent};
+ghost use Rattle.lxtr_spec.specs.Walks.{step, stepBy, walk, walkWithin, valueAt, longerAt};
+ghost use Rattle.lxtr_spec.specs.Answers.{found};
+ghost use Rattle.lxtr_laws.specs.Passed.{Passed};
+use crate::query::label_at;
+use crate::query::label_count;
+use lxtr_image::code_map::code_of;
+use lxtr_image::joining::slot_from;
+use lxtr_image::lists::list_width;
+use lxtr_image::nodes::has_leaf;
+use lxtr_image::nodes::is_leaf;
+use lxtr_image::nodes::parent_of;
+use lxtr_image::nodes::value_number;
+use lxtr_image::sections::slot_count;
+use lxtr_spec::Found;
+use lxtr_spec::MAX_LABELS;
+
+// Whether slot t exists and has n as parent.
+fn has_parent(image: &[u8], t: u32, n: u32) -> bool
+    requires { ⌜ Passed (now image) ⌝ }
+    ensures { λ r. ⌜ r ≡ (ltb t (slotCount (now (image .entry))) && eqb (parent (now (image .entry)) t) n) ⌝ }
+{
+    if slot_count(image) <= t {
+        return false;
+    }
+    parent_of(image, t) == n
+}
+
+// The step from slot n by a code.
+pub fn step(image: &[u8], n: u32, code: u32) -> Found
+    requires { ⌜ Passed (now image) ⌝ }
+    requires { ⌜ n < slotCount (now image) ⌝ }
+    ensures { λ r. ⌜ found r ≡ step (now (image .entry)) n code ⌝ }
+{
+    if is_leaf(image, n) {
+        return Found::Nothing;
+    }
+    let t = slot_from(image, n, code);
+    if !has_parent(image, t, n) {
+        return Found::Nothing;
+    }
+    Found::Is(t)
+}
+
+// The step by a label. One that isn't listed stops the walk.
+pub fn step_by(image: &[u8], n: u32, label: u32) -> Found
+    requires { ⌜ Passed (now image) ⌝ }
+    requires { ⌜ n < slotCount (now image) ⌝ }
+    ensures { λ r. ⌜ found r ≡ stepBy (now (image .entry)) n label ⌝ }
+{
+    let Found::Is(code) = code_of(image, label) else {
+        return Found::Nothing;
+    };
+    step(image, n, code)
+}
+
+// The slot that all labels of a query reach from slot 1.
+fn walk(image: &[u8], query: &[u8]) -> Found
+    requires { ⌜ Passed (now image) ⌝ }
+    ensures { λ r. ⌜ found r ≡ walk (now (image .entry)) 1 (labelsOf (now (query .entry))) ⌝ }
+{
+    let count = label_count(query);
+    let mut n: u32 = 1;
+    let mut i: usize = 0;
+    while i < count {
+        let Found::Is(t) = step_by(image, n, label_at(query, i)) else {
+            return Found::Nothing;
+        };
+        n = t;
+        i += 1;
+    }
+    Found::Is(n)
+}
+
+// The same; none beyond 64 labels.
+pub fn walk_within(image: &[u8], query: &[u8]) -> Found
+    requires { ⌜ Passed (now image) ⌝ }
+    ensures { λ r. ⌜ found r ≡ walkWithin (now (image .entry)) (labelsOf (now (query .entry))) ⌝ }
+{
+    if MAX_LABELS < label_count(query) {
+        return Found::Nothing;
+    }
+    walk(image, query)
+}
+
+// The value at slot n: HAS_LEAF is set and the step by 0 reaches a leaf.
+pub fn value_at(image: &[u8], n: u32) -> Found
+    requires { ⌜ Passed (now image) ⌝ }
+    requires { ⌜ n < slotCount (now image) ⌝ }
+    ensures { λ r. ⌜ found r ≡ valueAt (now (image .entry)) n ⌝ }
+{
+    if !has_leaf(image, n) {
+        return Found::Nothing;
+    }
+    let Found::Is(t) = step(image, n, 0) else {
+        return Found::Nothing;
+    };
+    if !is_leaf(image, t) {
+        return Found::Nothing;
+    }
+    Found::Is(value_number(image, t))
+}
+
+// Whether longer keys exist at slot n: it has a child besides the end of its own key.
+pub fn longer_at(image: &[u8], n: u32) -> bool
+    requires { ⌜ Passed (now image) ⌝ }
+    requires { ⌜ n < slotCount (now image) ⌝ }
+    ensures { λ r. ⌜ r ≡ longerAt (now (image .entry)) n ⌝ }
+{
+    let width = list_width(image, n);
+    if has_leaf(image, n) {
+        return 1 < width;
+    }
+    0 < width
+}
