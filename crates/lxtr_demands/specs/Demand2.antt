@@ -1,5 +1,5 @@
 -- Demand 2 for the searches and completions: what each answers over an image is what the image's set of pairs says.
--- Only the statement; the proof is `demand2` in Laws/Demand2.antt.
+-- Only the statements; the proofs are `demand2` in Laws/Demand2.antt and `searches` in Laws/Searches.antt.
 use Prim.Native.Nat.{ℕ, _*_, _%_, _≤_}
 use mathlib.Core.Path.{_≡_}
 use mathlib.Core.Logic.{_↔_}
@@ -8,13 +8,13 @@ use mathlib.Core.Bool.{true}
 use lib.ListN.{length, take, drop}
 use lib.Dec.{ltb}
 use Rattle.lxtr_spec.specs.Labels.{labelsOf, Pair}
-use Rattle.lxtr_spec.specs.Searches.{exactOf, prefixesAnswer, prefixesOf, longestOf, probeOf}
+use Rattle.lxtr_spec.specs.Searches.{searchRefusal, exactValue, exactOf, prefixesAnswer, prefixesOf, longestOf, probeOf}
 use Rattle.lxtr_spec.specs.Completions.{listingOf, roomFor, completionOf}
 use Rattle.lxtr_spec.specs.Sets.{PairSet, ImageOf}
 use Rattle.lxtr_spec.specs.Meaning.{PrefixesIn, LongestIn, Longer, Lists, FittingFront}
 
--- the answers to the query q, whose labels are xs, over an image b of the set d
-pub record Answered (b : List ℕ) (d : PairSet) (q xs : List ℕ) : Type 0 where
+-- what the four searches answer to the query q, whose labels are xs, by the set d
+pub record Searched (b : List ℕ) (d : PairSet) (q xs : List ℕ) : Type 0 where
   -- Exact: the value number or none.
   pub exact : exactOf b q ≡ record { refusal = 0; value = d xs }
   -- Prefixes: length and value of each prefix that is a key, shortest first. There is one such list.
@@ -25,9 +25,14 @@ pub record Answered (b : List ℕ) (d : PairSet) (q xs : List ℕ) : Type 0 wher
   pub longest : (n : ℕ) → LongestIn d xs n → longestOf b q ≡ record { refusal = 0; part = take (4 * n) q }
   pub some-longest : (n : ℕ) × LongestIn d xs n
   pub one-longest : (m n : ℕ) → LongestIn d xs m → LongestIn d xs n → m ≡ n
-  -- Probe: value or none, and whether longer keys exist.
+  -- Probe: value or none. (Whether longer keys exist is said below.)
   pub probe-refusal : probeOf b q .refusal ≡ 0
   pub probe-value : probeOf b q .value ≡ d xs
+
+-- and all answers to it, over an image b of the set d
+pub record Answered (b : List ℕ) (d : PairSet) (q xs : List ℕ) : Type 0 where
+  pub searched : Searched b d q xs
+  -- Probe: whether longer keys exist.
   pub probe-longer : (probeOf b q .longer ≡ true) ↔ Longer d xs
   -- Completions: the pairs whose keys begin with the labels, in code order. There is one such list.
   pub some-listing : (ps : List Pair) × Lists b d xs ps
@@ -42,3 +47,9 @@ pub record Answered (b : List ℕ) (d : PairSet) (q xs : List ℕ) : Type 0 wher
 -- for every image, and every query whose length is a multiple of four
 abbrev pub Demand2 : Type 0
 Demand2 = (b : List ℕ) (d : PairSet) (q : List ℕ) → ImageOf b d → length q % 4 ≡ 0 → Answered b d q (labelsOf q)
+
+-- What of this needs no check: over all bytes that pass 1 to 8, accepted or not, the searches speak of the same pairs.
+-- These are the pairs that exact finds. So prefixes are the lengths and values at which exact finds a value, longest is the
+-- last of them, and probe's value is exact's.
+abbrev pub SearchesAgree : Type 0
+SearchesAgree = (b q : List ℕ) → searchRefusal b q ≡ 0 → Searched b (exactValue b) q (labelsOf q)

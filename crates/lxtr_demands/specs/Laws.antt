@@ -28,4 +28,5 @@ pub mod Demand3
 -- The other searches.
 pub mod Probes
 pub mod Prefixes
+pub mod Searches
 pub mod Demand2

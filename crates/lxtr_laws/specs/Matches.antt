@@ -1,8 +1,8 @@
 -- The prefixes of a query that have a value, as one walk finds them: `matchesTo b q i` are those of the lengths up to i.
 -- Each slot on the way adds its own; where the walk stops, no longer prefix has a value.
-use Prim.Native.Nat.{ℕ, zero, suc, _+_, _-_, _*_, _≤_, _<_}
-use mathlib.Core.Path.{_≡_, refl, sym, ap, _∙_}
-use mathlib.Core.List.{List, [], _++_, append-nil}
+use Prim.Native.Nat.{ℕ, _+_, _-_, _≤_, _<_}
+use mathlib.Core.Path.{_≡_, sym, ap, _∙_}
+use mathlib.Core.List.{List, _++_, append-nil}
 use mathlib.Core.Option.{Option, some, none}
 use native.Mathlib.Nat.{zero-add}
 use native.Mathlib.Numerals.{add-one}
@@ -12,13 +12,12 @@ use lib.Seq.{getD-take}
 use Rattle.lxtr_spec.specs.Ranges.{concatFrom}
 use Rattle.lxtr_spec.specs.Labels.{maxLabels, labelsOf}
 use Rattle.lxtr_spec.specs.Image.{slotCount}
-use Rattle.lxtr_spec.specs.Walks.{stepBy, walk, valueAt, valueReached, valueOf}
-use Rattle.lxtr_spec.specs.Searches.{lengthMatch, matchAt, matches, prefixMatches, lastLength}
+use Rattle.lxtr_spec.specs.Walks.{stepBy, valueAt, valueReached, valueOf}
+use Rattle.lxtr_spec.specs.Searches.{lengthMatch, matchAt, matches, prefixMatches}
 use Rattle.lxtr_spec.specs.Answers.{found}
 use Rattle.lxtr_spec.specs.declared.Found.{Found}
 use Rattle.lxtr_spec.specs.declared.Found.the-variants.{Is, Nothing}
 use Rattle.lxtr_laws.specs.Ranges.{concat-more, concat-none, concat-length}
-use Rattle.lxtr_laws.specs.Queries.{label-count}
 use Rattle.lxtr_laws.specs.Walking.{Walked, walked-next, walked-stop}
 
 -- the labels of a query that count

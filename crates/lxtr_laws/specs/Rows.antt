@@ -1,13 +1,13 @@
 -- What a loop keeps of the matches that it meets: the row that Prefixes answers, or the last length.
 -- One more match changes either as it changes the list of matches.
-use Prim.Native.Nat.{ℕ, zero, suc, _+_, _*_, _-_, _≤_, _<_}
+use Prim.Native.Nat.{ℕ, zero, suc, _+_, _*_, _≤_, _<_}
 use mathlib.Core.Path.{_≡_, refl, sym, ap, _∙_}
 use mathlib.Core.List.{List, [], _∷_, _++_, map, map-append, append-assoc, append-nil}
 use mathlib.Core.Option.{Option, some, none}
 use native.Mathlib.Nat.{zero-add, le-refl}
 use native.Mathlib.Numerals.{add-one}
 use native.Mathlib.Omega.{arith}
-use lib.ListN.{length, take, set, replicate, length-append, length-map, length-take}
+use lib.ListN.{length, take, set, length-append, length-map, length-take}
 use lib.Seq.{set-append-seam, length-take-le}
 use Rattle.lxtr_spec.specs.Ranges.{concatFrom}
 use Rattle.lxtr_spec.specs.Labels.{maxLabels, lengthCount, labelsOf}

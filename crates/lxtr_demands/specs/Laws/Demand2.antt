@@ -1,51 +1,38 @@
 -- Demand 2 for the searches and completions, from its parts.
--- The set of an image is what exact search finds in it, so prefixes and longest, which exact search defines, speak of the set.
+-- The set of an image is what exact finds in it, and of that the searches speak already without the check.
 use Prim.Native.Nat.{ℕ, _+_, _-_}
 use native.Mathlib.Omega.{arith}
-use mathlib.Core.Path.{_≡_, _∙_}
+use mathlib.Core.Path.{_≡_, fun-ext, subst}
 use mathlib.Core.List.{List}
 use lib.ListN.{length}
 use Rattle.lxtr_spec.specs.Labels.{labelsOf}
 use Rattle.lxtr_spec.specs.Refusals.{unlessRefused}
-use Rattle.lxtr_spec.specs.Walks.{walkWithin}
-use Rattle.lxtr_spec.specs.Searches.{exactValue, exactOf, prefixMatches, prefixesOf, lastLength, longestLength, longestOf, probeOf}
+use Rattle.lxtr_spec.specs.Searches.{exactValue, probeOf}
 use Rattle.lxtr_spec.specs.Completions.{pairsBelow, fitting}
-use Rattle.lxtr_spec.specs.Sets.{PairSet, ImageOf}
-use Rattle.lxtr_spec.specs.Meaning.{PrefixesIn, LongestIn}
-use Rattle.lxtr_demands.specs.Demand2.{Demand2}
-use Rattle.lxtr_demands.specs.Laws.Images.{image-set, known-image}
+use Rattle.lxtr_spec.specs.Sets.{PairSet}
+use Rattle.lxtr_demands.specs.Demand2.{Searched, Demand2}
+use Rattle.lxtr_demands.specs.Laws.Kinds.{KnownImage}
+use Rattle.lxtr_demands.specs.Laws.Images.{known-image}
 use Rattle.lxtr_demands.specs.Laws.Queries.{leads, value-led}
-use Rattle.lxtr_demands.specs.Laws.Probes.{probe-refusal, probe-value, probe-longer}
-use Rattle.lxtr_demands.specs.Laws.Prefixes.{prefixes-in, one-prefixes, longest-in, one-longest}
+use Rattle.lxtr_demands.specs.Laws.Probes.{probe-longer}
+use Rattle.lxtr_demands.specs.Laws.Searches.{searches}
 use Rattle.lxtr_demands.specs.Laws.CodeOrder.{one-listing}
 use Rattle.lxtr_demands.specs.Laws.Rooms.{some-front, one-front}
 use Rattle.lxtr_demands.specs.Laws.Completions.{pairs-listed, search-passes, completes}
 
-module _ {b : List ℕ} {d : PairSet} (image : ImageOf b d) (q : List ℕ) where
-  matches-in : PrefixesIn d (labelsOf q) (prefixMatches b q)
-  unfolding prefixMatches
-  matches-in = rw (← (image-set image)) (prefixes-in d (image .keys .key-length) (labelsOf q))
-
-  longest-found : LongestIn d (labelsOf q) (lastLength (prefixMatches b q))
-  longest-found = longest-in d (labelsOf q) (prefixMatches b q) matches-in
+-- the set of an image is what exact finds
+exact-set : {b : List ℕ} {d : PairSet} → KnownImage b d → exactValue b ≡ d
+unfolding exactValue
+exact-set known = fun-ext (λ xs. value-led known xs (leads known xs))
 
 pub demand2 : Demand2
-unfolding exactOf exactValue prefixesOf longestLength longestOf probeOf unlessRefused
+unfolding probeOf unlessRefused
 demand2 b d q image whole =
     let passes = search-passes image q whole in
     let known = known-image image in
-    let found = leads known (labelsOf q) in
     record {
-      exact = rw (passes, value-led known (labelsOf q) found);
-      prefixes = λ ms p. rw (passes, one-prefixes d (labelsOf q) (prefixMatches b q) ms (matches-in image q) p);
-      one-prefixes = one-prefixes d (labelsOf q);
-      some-prefixes = (prefixMatches b q, matches-in image q);
-      longest = λ n l. rw (passes, one-longest d (labelsOf q) (lastLength (prefixMatches b q)) n (longest-found image q) l);
-      one-longest = one-longest d (labelsOf q);
-      some-longest = (lastLength (prefixMatches b q), longest-found image q);
-      probe-refusal = rw passes (probe-refusal b (walkWithin b (labelsOf q)));
-      probe-value = rw passes (probe-value b (walkWithin b (labelsOf q)) ∙ value-led known (labelsOf q) found);
-      probe-longer = rw passes (probe-longer known (labelsOf q) found);
+      searched = subst (λ e. Searched b e q (labelsOf q)) (exact-set known) (searches b q passes);
+      probe-longer = rw passes (probe-longer known (labelsOf q) (leads known (labelsOf q)));
       one-listing = one-listing b d (labelsOf q);
       some-listing = (pairsBelow b (labelsOf q), pairs-listed known (labelsOf q));
       completion = λ ps fit room l h f. completes image q whole room ps fit h l f;

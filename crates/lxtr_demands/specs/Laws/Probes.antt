@@ -5,10 +5,10 @@ use native.Mathlib.Omega.{arith}
 use mathlib.Core.Path.{_≡_, refl, sym, ap, _∙_}
 use mathlib.Core.Logic.{_≢_, _↔_, inr}
 use mathlib.Core.List.{List, [], _∷_, _++_, append-assoc}
-use mathlib.Core.Option.{Option, some, none}
+use mathlib.Core.Option.{Option}
 use mathlib.Core.Bool.{Bool, true, false, cond, true≢false, false≢true}
 use Rattle.lxtr_spec.specs.Image.{hasLeaf, offset, child, listWidth}
-use Rattle.lxtr_spec.specs.Walks.{valueReached, longerAt}
+use Rattle.lxtr_spec.specs.Walks.{longerAt}
 use Rattle.lxtr_spec.specs.Searches.{probeAnswer, probeAt}
 use Rattle.lxtr_spec.specs.Sets.{PairSet, Has, Prefix, InList}
 use Rattle.lxtr_spec.specs.Meaning.{Longer}
@@ -71,13 +71,3 @@ module _ {b : List ℕ} {d : PairSet} (known : KnownImage b d) (xs : List ℕ) w
   unfolding probeAt probeAnswer
   probe-longer (to-slot f) = longer-at f
   probe-longer (nowhere n) = (λ e. absurd (false≢true e), λ l. absurd (n (prefix-part d xs (l .next ∷ []) (longer-prefix d xs l))))
-
-pub probe-refusal : (b : List ℕ) (o : Option ℕ) → probeAt b o .refusal ≡ 0
-unfolding probeAt probeAnswer
-probe-refusal b none = refl
-probe-refusal b (some n) = refl
-
-pub probe-value : (b : List ℕ) (o : Option ℕ) → probeAt b o .value ≡ valueReached b o
-unfolding probeAt probeAnswer valueReached
-probe-value b none = refl
-probe-value b (some n) = refl

@@ -1,5 +1,4 @@
 -- No matches: every place is zero.
-use borrow.Author.Needs.{needs}
 use mathlib.Core.Path.{refl}
 use Rattle.lxtr_spec.specs.Labels.{maxLabels}
 use Rattle.lxtr_spec.specs.Searches.{prefixesAnswer}

@@ -1,5 +1,4 @@
 -- The bytes of label i lie at 4 * i, within the query.
-use borrow.Author.Needs.{needs}
 use native.Mathlib.Omega.{arith}
 use Rattle.lxtr_laws.specs.Queries.{label-within, label-read}
 use Rattle.lxtr_search.proofs.query.label_at.Statement.{statement}

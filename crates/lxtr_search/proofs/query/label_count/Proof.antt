@@ -1,5 +1,4 @@
 -- The law `label-count`.
-use borrow.Author.Needs.{needs}
 use mathlib.Core.Path.{sym}
 use Rattle.lxtr_laws.specs.Queries.{label-count}
 use Rattle.lxtr_search.proofs.query.label_count.Statement.{statement}

@@ -1,0 +1,77 @@
+-- Over all bytes that pass 1 to 8 the searches speak of the pairs that exact finds.
+-- Within the limit the walk is cut nowhere, so the values that prefixes are defined by are exact's.
+use Prim.Native.Nat.{ℕ, _+_, _≤_}
+use native.Mathlib.Omega.{arith}
+use mathlib.Core.Path.{_≡_, refl, ap, fun-ext}
+use mathlib.Core.List.{List}
+use mathlib.Core.Option.{Option, some, none}
+use mathlib.Core.Bool.{Bool, true, false, cond}
+use lib.ListN.{length, take, length-take}
+use lib.Dec.{ltb}
+use borrow.Author.Tests.{le-ltb, ltb-false}
+use Rattle.lxtr_spec.specs.Ranges.{concatFrom}
+use Rattle.lxtr_spec.specs.Labels.{maxLabels, labelsOf}
+use Rattle.lxtr_spec.specs.Refusals.{unlessRefused}
+use Rattle.lxtr_spec.specs.Walks.{walk, walkWithin, valueReached, valueOf}
+use Rattle.lxtr_spec.specs.Searches.{exactValue, exactOf, lengthMatch, matchAt, matches, prefixMatches, prefixesOf, lastLength, longestLength, longestOf, probeAnswer, probeAt, probeOf}
+use Rattle.lxtr_spec.specs.Sets.{Has}
+use Rattle.lxtr_spec.specs.Meaning.{PrefixesIn, LongestIn}
+use Rattle.lxtr_laws.specs.Steps.{none-not-some}
+use Rattle.lxtr_demands.specs.Demand2.{SearchesAgree}
+use Rattle.lxtr_demands.specs.Laws.Prefixes.{prefixes-in, one-prefixes, longest-in, one-longest}
+
+probe-refusal : (b : List ℕ) (o : Option ℕ) → probeAt b o .refusal ≡ 0
+unfolding probeAt probeAnswer
+probe-refusal b none = refl
+probe-refusal b (some n) = refl
+
+probe-value : (b : List ℕ) (o : Option ℕ) → probeAt b o .value ≡ valueReached b o
+unfolding probeAt probeAnswer valueReached
+probe-value b none = refl
+probe-value b (some n) = refl
+
+module _ (b : List ℕ) where
+  -- exact finds nothing beyond the limit
+  exact-limit : (k : List ℕ) (v : ℕ) → Has (exactValue b) k v → length k ≤ maxLabels
+  unfolding exactValue walkWithin valueReached
+  exact-limit k v h = go (ltb maxLabels (length k)) refl h
+    where
+      go : (long : Bool) → ltb maxLabels (length k) ≡ long → valueReached b (cond long none (walk b 1 k)) ≡ some v → length k ≤ maxLabels
+      go true e h = absurd (none-not-some h)
+      go false e h = ltb-false maxLabels (length k) e
+
+  -- and within it what the walk gives
+  exact-within : (k : List ℕ) → length k ≤ maxLabels → exactValue b k ≡ valueOf b k
+  unfolding exactValue walkWithin valueOf
+  exact-within k h = rw (le-ltb maxLabels (length k) h)
+
+  same-matches : (xs : List ℕ) → matches (exactValue b) (take maxLabels xs) ≡ matches (valueOf b) (take maxLabels xs)
+  unfolding matches matchAt
+  same-matches xs =
+      let ys = take maxLabels xs in
+      ap (concatFrom (length ys + 1) 0) (fun-ext (λ k. ap (lengthMatch k) (exact-within (take k ys) (omega (arith, length-take k ys, length-take maxLabels xs)))))
+
+  module _ (q : List ℕ) where
+    matches-in : PrefixesIn (exactValue b) (labelsOf q) (prefixMatches b q)
+    unfolding prefixMatches
+    matches-in = rw (← (same-matches (labelsOf q))) (prefixes-in (exactValue b) exact-limit (labelsOf q))
+
+    longest-found : LongestIn (exactValue b) (labelsOf q) (lastLength (prefixMatches b q))
+    longest-found = longest-in (exactValue b) (labelsOf q) (prefixMatches b q) matches-in
+
+pub searches : SearchesAgree
+unfolding exactOf exactValue prefixesOf longestLength longestOf probeOf unlessRefused
+searches b q passes =
+    let d = exactValue b in
+    let xs = labelsOf q in
+    record {
+      exact = rw passes;
+      prefixes = λ ms p. rw (passes, one-prefixes d xs (prefixMatches b q) ms (matches-in b q) p);
+      one-prefixes = one-prefixes d xs;
+      some-prefixes = (prefixMatches b q, matches-in b q);
+      longest = λ n l. rw (passes, one-longest d xs (lastLength (prefixMatches b q)) n (longest-found b q) l);
+      one-longest = one-longest d xs;
+      some-longest = (lastLength (prefixMatches b q), longest-found b q);
+      probe-refusal = rw passes (probe-refusal b (walkWithin b xs));
+      probe-value = rw passes (probe-value b (walkWithin b xs));
+    }

@@ -1,0 +1,274 @@
+// Runs the searches on document 01's examples P2 to P7, on the limit of 64 labels and on refusals, and prints the answers.
+use libc::STDOUT_FILENO;
+use lxtr_search::exact;
+use lxtr_search::longest;
+use lxtr_search::prefixes;
+use lxtr_search::probe;
+use lxtr_spec::Found;
+use lxtr_spec::LENGTH_COUNT;
+use lxtr_spec::Prefixes;
+
+// `LXTR`, version 3, and N, E and M; the rest is zero.
+fn header(slots: u8, children: u8, map: u8) -> [u8; 141] {
+    let mut image = [0u8; 141];
+    image[0] = 0x4C;
+    image[1] = 0x58;
+    image[2] = 0x54;
+    image[3] = 0x52;
+    image[4] = 3;
+    image[8] = slots;
+    image[12] = children;
+    image[16] = map;
+    image
+}
+
+// The slots of P3, from 1 on: (2, 0), (0x80000001, 6), (4, 0x80000001), (0x80000000, 3), (0, 0), (2, 0x80000003).
+fn p3_slots() -> [u8; 141] {
+    let mut image = header(7, 4, 13);
+    image[32] = 2;
+    image[40] = 1;
+    image[43] = 0x80;
+    image[44] = 6;
+    image[48] = 4;
+    image[52] = 1;
+    image[55] = 0x80;
+    image[59] = 0x80;
+    image[60] = 3;
+    image[72] = 2;
+    image[76] = 3;
+    image[79] = 0x80;
+    image
+}
+
+// P3, keys 6E and 6E 61: offsets 0 0 1 1 3 3 3 4, children 3 4 6 2, and the code map.
+fn p3() -> [u8; 141] {
+    let mut image = p3_slots();
+    image[88] = 1;
+    image[92] = 1;
+    image[96] = 3;
+    image[100] = 3;
+    image[104] = 3;
+    image[108] = 4;
+    image[112] = 3;
+    image[116] = 4;
+    image[120] = 6;
+    image[124] = 2;
+    image[128] = 1;
+    image[132] = 2;
+    image[136] = 0x6E;
+    image[140] = 0x61;
+    image
+}
+
+// P2, the empty key alone, in the first 73 bytes: slots (0, 0), (2, 0x80000000), (0x80000000, 1), offsets 0 0 1 1, child 2.
+fn p2() -> [u8; 141] {
+    let mut image = header(3, 1, 5);
+    image[32] = 2;
+    image[39] = 0x80;
+    image[43] = 0x80;
+    image[44] = 1;
+    image[56] = 1;
+    image[60] = 1;
+    image[64] = 2;
+    image[68] = 1;
+    image
+}
+
+// In the first 61 bytes, slots (0x80000005, 1) and (0, 0x80000001): slot 1 is its own child by label 61, and slot 0 its end.
+// The check would refuse it, but it passes 1 to 8, and any number of labels 61 walks.
+fn own_child() -> [u8; 141] {
+    let mut image = header(2, 0, 9);
+    image[24] = 5;
+    image[27] = 0x80;
+    image[28] = 1;
+    image[36] = 1;
+    image[39] = 0x80;
+    image[52] = 1;
+    image[56] = 1;
+    image[60] = 0x61;
+    image
+}
+
+// 66 labels 61.
+fn many_labels() -> [u8; 264] {
+    let mut query = [0u8; 264];
+    let mut i: usize = 0;
+    while i < 66 {
+        query[4 * i + 3] = 0x61;
+        i += 1;
+    }
+    query
+}
+
+// The first n bytes, or all if there are fewer.
+fn front<'a>(bytes: &'a [u8], n: usize) -> &'a [u8] {
+    if n < bytes.len() {
+        return &bytes[..n];
+    }
+    bytes
+}
+
+fn print(text: &[u8]) {
+    io::write_all(STDOUT_FILENO, text);
+}
+
+fn print_number(n: u64) {
+    io::print_decimal(STDOUT_FILENO, n);
+}
+
+fn print_refusal(refusal: u8) {
+    print(b"refused ");
+    print_number(refusal as u64);
+    print(b"\n");
+}
+
+fn print_value(value: Found) {
+    match value {
+        Found::Is(v) => print_number(v as u64),
+        Found::Nothing => print(b"none"),
+    }
+}
+
+fn show_exact(what: &[u8], image: &[u8], query: &[u8]) {
+    print(what);
+    let answer = exact(image, query);
+    if answer.refusal != 0 {
+        print_refusal(answer.refusal);
+        return;
+    }
+    let value = answer.value;
+    print_value(value);
+    print(b"\n");
+}
+
+fn print_match(length: u32, value: u32) {
+    print(b" (");
+    print_number(length as u64);
+    print(b",");
+    print_number(value as u64);
+    print(b")");
+}
+
+fn print_matches(answer: Prefixes) {
+    print_number(answer.count as u64);
+    let lengths = answer.lengths;
+    let values = answer.values;
+    let mut i: usize = 0;
+    while i < LENGTH_COUNT {
+        if i < answer.count as usize {
+            print_match(lengths[i], values[i]);
+        }
+        i += 1;
+    }
+    print(b"\n");
+}
+
+fn show_prefixes(what: &[u8], image: &[u8], query: &[u8]) {
+    print(what);
+    let answer = prefixes(image, query);
+    if answer.refusal != 0 {
+        print_refusal(answer.refusal);
+        return;
+    }
+    print_matches(answer);
+}
+
+fn show_longest(what: &[u8], image: &[u8], query: &[u8]) {
+    print(what);
+    let mut refusal: u8 = 0;
+    let part = longest(image, query, &mut refusal);
+    if refusal != 0 {
+        print_refusal(refusal);
+        return;
+    }
+    print_number(part.len() as u64 / 4);
+    print(b" labels\n");
+}
+
+fn show_probe(what: &[u8], image: &[u8], query: &[u8]) {
+    print(what);
+    let answer = probe(image, query);
+    if answer.refusal != 0 {
+        print_refusal(answer.refusal);
+        return;
+    }
+    let value = answer.value;
+    print_value(value);
+    if answer.longer {
+        print(b", yes\n");
+    } else {
+        print(b", no\n");
+    }
+}
+
+fn show_p4(image: &[u8]) {
+    show_exact(b"P4 exact 6E: ", image, b"\0\0\0n");
+    show_exact(b"P4 exact 6E 61: ", image, b"\0\0\0n\0\0\0a");
+    show_exact(b"P4 exact 61: ", image, b"\0\0\0a");
+    show_exact(b"P4 exact empty: ", image, b"");
+}
+
+fn show_p5(image: &[u8]) {
+    show_prefixes(b"P5 prefixes 6E 61 6E: ", image, b"\0\0\0n\0\0\0a\0\0\0n");
+    show_longest(b"longest 6E 61 6E: ", image, b"\0\0\0n\0\0\0a\0\0\0n");
+    show_prefixes(b"prefixes 61 6E: ", image, b"\0\0\0a\0\0\0n");
+    show_longest(b"longest 61 6E: ", image, b"\0\0\0a\0\0\0n");
+}
+
+fn show_p6(image: &[u8]) {
+    show_probe(b"P6 probe 6E: ", image, b"\0\0\0n");
+    show_probe(b"P6 probe 6E 61: ", image, b"\0\0\0n\0\0\0a");
+    show_probe(b"P6 probe empty: ", image, b"");
+    show_probe(b"P6 probe 78: ", image, b"\0\0\0x");
+}
+
+// P3 with children 3 4 4 2: no search reads them.
+fn show_p7() {
+    let mut image = p3();
+    image[120] = 4;
+    show_exact(b"P7 exact 6E 61: ", &image, b"\0\0\0n\0\0\0a");
+}
+
+fn show_empty_key(image: &[u8]) {
+    show_exact(b"P2 exact empty: ", image, b"");
+    show_prefixes(b"P2 prefixes 61: ", image, b"\0\0\0a");
+    show_longest(b"P2 longest 61: ", image, b"\0\0\0a");
+    show_probe(b"P2 probe empty: ", image, b"");
+}
+
+fn show_limit(image: &[u8], query: &[u8]) {
+    show_exact(b"exact, 64 labels: ", image, front(query, 256));
+    show_exact(b"exact, 65 labels: ", image, front(query, 260));
+    show_probe(b"probe, 64 labels: ", image, front(query, 256));
+    show_probe(b"probe, 65 labels: ", image, front(query, 260));
+    show_longest(b"longest, 63 labels: ", image, front(query, 252));
+    show_longest(b"longest, 66 labels: ", image, query);
+    show_prefixes(b"prefixes, 66 labels: ", image, query);
+}
+
+// 1 to 8 come before 13; then no search is made.
+fn show_refusals(image: &[u8]) {
+    show_exact(b"exact, 3 bytes: ", image, b"\0\0n");
+    show_prefixes(b"prefixes, 5 bytes: ", image, b"\0\0\0n\0");
+    show_longest(b"longest, 5 bytes: ", image, b"\0\0\0n\0");
+    show_probe(b"probe, 3 bytes: ", image, b"\0\0n");
+    show_exact(b"exact, image cut short: ", front(image, 140), b"\0\0n");
+    show_prefixes(
+        b"prefixes, image cut short: ",
+        front(image, 140),
+        b"\0\0\0n",
+    );
+    show_longest(b"longest, image cut short: ", front(image, 23), b"\0\0\0n");
+    show_probe(b"probe, image cut short: ", front(image, 23), b"\0\0n");
+}
+
+fn main() {
+    let image = p3();
+    show_p4(&image);
+    show_p5(&image);
+    show_p6(&image);
+    show_p7();
+    show_empty_key(front(&p2(), 73));
+    show_limit(front(&own_child(), 61), &many_labels());
+    show_refusals(&image);
+}
