@@ -22,6 +22,10 @@ use Rattle.lxtr_laws.specs.Queries.{label-count}
 use Rattle.lxtr_laws.specs.Walking.{Walked}
 use Rattle.lxtr_laws.specs.Matches.{counted, matchesTo, match-count, matches-start, matches-next}
 
+-- the row of so many matches
+abbrev pub row : ℕ → List ℕ → List ℕ → Prefixes
+row n ks vs = record { refusal = 0; count = n; lengths = ks; values = vs }
+
 -- the row with a match of length k more, if there is a value
 abbrev pub withMatch : Prefixes → ℕ → Option ℕ → Prefixes
 withMatch row k none = row
@@ -82,10 +86,6 @@ module _ (b q : List ℕ) where
   pub longest-part : (n : ℕ) → n ≡ lastLength (prefixMatches b q) → 4 * n ≡ length (take (4 * n) q)
   longest-part n e = sym (length-take-le (4 * n) q (rw e longest-within))
 
-  pub row-empty : (row : Prefixes) → row ≡ prefixesAnswer 0 [] → row .count < lengthCount
-  unfolding prefixesAnswer
-  row-empty row e = rw e (omega arith)
-
   -- the first slot's match
   pub row-start : (first row : Prefixes) (f : Found) → Walked b (counted q) 0 1 → first ≡ prefixesAnswer 0 [] → found f ≡ valueAt b 1 → row ≡ withMatch first 0 (found f)
       → row ≡ prefixesAnswer 0 (matchesTo b q 0)
@@ -93,15 +93,15 @@ module _ (b q : List ℕ) where
 
   -- of a loop's turn
   module _ (i t : ℕ) (f : Found) (w : Walked b (counted q) (i + 1) t) (value : found f ≡ valueAt b t) where
-    pub row-next : (row next : Prefixes) → row ≡ prefixesAnswer 0 (matchesTo b q i) → next ≡ withMatch row (i + 1) (found f) → next ≡ prefixesAnswer 0 (matchesTo b q (i + 1))
-    row-next row next e g = rw (g, e, value, row-more 0 (i + 1) (valueAt b t) (matchesTo b q i) (omega (arith, match-count b q i, w .so-far, length-take maxLabels (labelsOf q))), matches-next b q i t w)
+    pub row-next : (before next : Prefixes) → before ≡ prefixesAnswer 0 (matchesTo b q i) → next ≡ withMatch before (i + 1) (found f) → next ≡ prefixesAnswer 0 (matchesTo b q (i + 1))
+    row-next before next e g = rw (g, e, value, row-more 0 (i + 1) (valueAt b t) (matchesTo b q i) (omega (arith, match-count b q i, w .so-far, length-take maxLabels (labelsOf q))), matches-next b q i t w)
 
     pub last-next : (longest next : ℕ) → longest ≡ lastLength (matchesTo b q i) → next ≡ laterLength longest (i + 1) (found f) → next ≡ lastLength (matchesTo b q (i + 1))
     last-next longest next e g = rw (g, e, value, matches-next b q i t w, last-more)
 
-  pub row-room : (row : Prefixes) (m i : ℕ) → row ≡ prefixesAnswer 0 (matchesTo b q i) → m ≡ length (counted q) → i < m → row .count < lengthCount
+  pub row-room : (n : ℕ) (ks vs : List ℕ) (m i : ℕ) → row n ks vs ≡ prefixesAnswer 0 (matchesTo b q i) → m ≡ length (counted q) → i < m → n < lengthCount
   unfolding prefixesAnswer
-  row-room row m i e c h = rw e (omega (arith, match-count b q i, length-take maxLabels (labelsOf q)))
+  row-room n ks vs m i e c h = omega (arith, ap (λ (r : Prefixes). r .count) e, match-count b q i, length-take maxLabels (labelsOf q))
 
   pub last-start : 0 ≡ lastLength (matchesTo b q 0)
   last-start = omega (arith, last-tried (valueOf b) (counted q) 0 (last-up-to (valueOf b) (counted q) 0))

@@ -11,10 +11,11 @@ use Rattle.lxtr_spec.specs.Labels.{labelsOf}
 use Rattle.lxtr_spec.specs.Refusals.{refuseIf, firstRefusal, unlessRefused, headerRefusal}
 use Rattle.lxtr_spec.specs.Walks.{walkWithin, valueAt, longerAt}
 use Rattle.lxtr_spec.specs.Searches.{queryRefusal, searchRefusal, ExactAnswer, exactValue, exactOf, prefixMatches, prefixesAnswer, prefixesOf, LongestAnswer, lastLength, longestLength, longestOf, ProbeAnswer, probeAnswer, probeAt, probeOf}
-use Rattle.lxtr_spec.specs.Answers.{found}
+use Rattle.lxtr_spec.specs.Answers.{found, probeMeans}
 use Rattle.lxtr_spec.specs.declared.Found.{Found}
 use Rattle.lxtr_spec.specs.declared.Found.the-variants.{Is, Nothing}
 use Rattle.lxtr_spec.specs.declared.Prefixes.{Prefixes}
+use Rattle.lxtr_spec.specs.declared.Probe.{Probe}
 use Rattle.lxtr_laws.specs.Refusing.{none-first}
 use Rattle.lxtr_laws.specs.Passed.{Passed, header-passed}
 
@@ -63,9 +64,9 @@ module _ (b q : List ℕ) (r : ℕ) where
       unfolding longestOf longestLength
       longest-refused = rw (← known, stands r (lastLength (prefixMatches b q)) 0 h)
 
-      pub probe-refused : _≡_ {A = ProbeAnswer} (record { refusal = r; value = none; longer = false }) (probeOf b q)
-      unfolding probeOf probeAnswer
-      probe-refused = rw (← known, stands r (probeAt b (walkWithin b (labelsOf q))) (probeAnswer r none false) h)
+      pub probe-refused : (p : Probe) → probeMeans p ≡ probeAnswer r none false → probeMeans p ≡ probeOf b q
+      unfolding probeOf
+      probe-refused p e = rw (← known, stands r (probeAt b (walkWithin b (labelsOf q))) (probeAnswer r none false) h) e
 
     -- and without one
     module _ (z : r ≡ 0) where
@@ -82,9 +83,9 @@ module _ (b q : List ℕ) (r : ℕ) where
       longest-passed n e = rw (z, sym known ∙ z, e)
 
       module _ (f : Found) (walked : found f ≡ walkWithin b (labelsOf q)) where
-        pub probe-nowhere : f ≡ Nothing → _≡_ {A = ProbeAnswer} (record { refusal = 0; value = none; longer = false }) (probeOf b q)
-        unfolding probeOf probeAt probeAnswer unlessRefused
-        probe-nowhere h = rw (sym known ∙ z, sym walked ∙ ap found h)
+        pub probe-nowhere : (p : Probe) → f ≡ Nothing → probeMeans p ≡ probeAnswer 0 none false → probeMeans p ≡ probeOf b q
+        unfolding probeOf probeAt unlessRefused
+        probe-nowhere p h e = rw (sym known ∙ z, sym walked ∙ ap found h) e
 
         pub probe-reached : (n : ℕ) (v : Found) (l : Bool) → f ≡ Is n → found v ≡ valueAt b n → l ≡ longerAt b n
             → _≡_ {A = ProbeAnswer} (record { refusal = 0; value = found v; longer = l }) (probeOf b q)

@@ -1,11 +1,12 @@
 -- A step and a value as the code finds them, test by test. Results of calls are variables, so that a proof can cite a law
 -- without saying where in the code they come from.
-use Prim.Native.Nat.{ℕ, _<_}
+use Prim.Native.Nat.{ℕ, _≤_, _<_}
 use mathlib.Core.Path.{_≡_, sym, ap, _∙_}
 use mathlib.Core.List.{List}
 use mathlib.Core.Option.{some, none}
 use mathlib.Core.Bool.{Bool, true, false, not, _&&_}
 use lib.Dec.{ltb, eqb}
+use borrow.Author.Tests.{lt-ltb, le-ltb}
 use Rattle.lxtr_spec.specs.Image.{slotCount, isLeaf, hasLeaf, parent, valueNumber, slotFrom, listWidth, codeOf}
 use Rattle.lxtr_spec.specs.Walks.{step, stepBy, leafValue, valueAt, longerAt}
 use Rattle.lxtr_spec.specs.Answers.{found}
@@ -13,6 +14,14 @@ use Rattle.lxtr_spec.specs.declared.Found.{Found}
 use Rattle.lxtr_spec.specs.declared.Found.the-variants.{Is, Nothing}
 use Rattle.lxtr_laws.specs.Tests.{outcome, not-is-true, not-is-false}
 use Rattle.lxtr_laws.specs.Steps.{step-is}
+
+-- whether slot t, of as many as there are, has n as parent
+module _ (b : List ℕ) (t n slots : ℕ) (count : slots ≡ slotCount b) where
+  pub parent-outside : slots ≤ t → false ≡ (ltb t (slotCount b) && eqb (parent b t) n)
+  parent-outside h = rw (← count, le-ltb t slots h)
+
+  pub parent-inside : (p : ℕ) → t < slots → p ≡ parent b t → eqb p n ≡ (ltb t (slotCount b) && eqb (parent b t) n)
+  parent-inside p h e = rw (← count, lt-ltb t slots h, e)
 
 -- the step by code c from slot n
 module _ (b : List ℕ) (n c : ℕ) where

@@ -1,9 +1,10 @@
 // Searches LXTR images: exact match, prefixes, longest match and probe, for any bytes as image and query.
 // They walk every image that passes refusals 1 to 8, whether or not the check would accept it.
 ghost use mathlib.Core.Path.{_≡_};
-ghost use Rattle.lxtr_spec.specs.Searches.{exactValue, exactOf, prefixesOf, longestOf, probeAt, probeOf};
+ghost use mathlib.Core.Option.{none};
+ghost use mathlib.Core.Bool.{false};
+ghost use Rattle.lxtr_spec.specs.Searches.{exactValue, exactOf, prefixesOf, longestOf, probeAnswer, probeOf};
 ghost use Rattle.lxtr_spec.specs.Labels.{labelsOf};
-ghost use Rattle.lxtr_spec.specs.Walks.{walkWithin};
 ghost use Rattle.lxtr_spec.specs.Answers.{found, exactMeans, probeMeans};
 ghost use Rattle.lxtr_laws.specs.Passed.{Passed};
 use lxtr_spec::Exact;
@@ -75,24 +76,27 @@ pub fn longest<'a>(image: &[u8], query: &'a [u8], refusal: &mut u8) -> &'a [u8]
     &query[..end]
 }
 
+// A probe that finds nothing.
+fn nothing_probed(refusal: u8) -> Probe
+    ensures { λ r. ⌜ probeMeans r ≡ probeAnswer refusal none false ⌝ }
+{
+    Probe {
+        refusal,
+        value: Found::Nothing,
+        longer: false,
+    }
+}
+
 // The value of the query, or none, and whether longer keys begin with it.
 pub fn probe(image: &[u8], query: &[u8]) -> Probe
     ensures { λ r. ⌜ probeMeans r ≡ probeOf (now (image .entry)) (now (query .entry)) ⌝ }
 {
     let refusal = search_refusal(image, query);
     if refusal != 0 {
-        return Probe {
-            refusal,
-            value: Found::Nothing,
-            longer: false,
-        };
+        return nothing_probed(refusal);
     }
     let Found::Is(n) = walk_within(image, query) else {
-        return Probe {
-            refusal: 0,
-            value: Found::Nothing,
-            longer: false,
-        };
+        return nothing_probed(0);
     };
     Probe {
         refusal: 0,

@@ -7,7 +7,7 @@ ghost use Rattle.lxtr_spec.specs.Labels.{maxLabels, lengthCount, labelsOf};
 ghost use Rattle.lxtr_spec.specs.Searches.{prefixMatches, prefixesAnswer, lastLength};
 ghost use Rattle.lxtr_spec.specs.Answers.{found};
 ghost use Rattle.lxtr_laws.specs.Passed.{Passed};
-ghost use Rattle.lxtr_laws.specs.Rows.{withMatch, laterLength};
+ghost use Rattle.lxtr_laws.specs.Rows.{row, withMatch, laterLength};
 use crate::query::label_at;
 use crate::query::label_count;
 use crate::walk::step_by;
@@ -40,20 +40,19 @@ pub fn no_matches(refusal: u8) -> Prefixes
     }
 }
 
-// One more match, if there is a value.
-fn with_match(row: Prefixes, length: u32, value: Found) -> Prefixes
-    requires { ⌜ row .count < lengthCount ⌝ }
-    ensures { λ r. ⌜ r ≡ withMatch row length (found value) ⌝ }
+// One more match after the first `count`, if there is a value; answers how many there are then.
+fn put_match(lengths: &mut [u32], values: &mut [u32], count: u32, k: u32, value: Found) -> u32
+    requires { ⌜ count < lengthCount ⌝ }
+    requires { ⌜ length (now lengths) ≡ lengthCount ⌝ }
+    requires { ⌜ length (now values) ≡ lengthCount ⌝ }
+    ensures { λ r. ⌜ row r (now (lengths .exit)) (now (values .exit)) ≡ withMatch (row count (now (lengths .entry)) (now (values .entry))) k (found value) ⌝ }
 {
     let Found::Is(v) = value else {
-        return row;
+        return count;
     };
-    let mut next = row;
-    let at = next.count as usize;
-    next.lengths[at] = length;
-    next.values[at] = v;
-    next.count = next.count + 1;
-    next
+    lengths[count as usize] = k;
+    values[count as usize] = v;
+    count + 1
 }
 
 // All of them, shortest first.
@@ -61,19 +60,27 @@ pub fn prefix_matches(image: &[u8], query: &[u8]) -> Prefixes
     requires { ⌜ Passed (now image) ⌝ }
     ensures { λ r. ⌜ r ≡ prefixesAnswer 0 (prefixMatches (now (image .entry)) (now (query .entry))) ⌝ }
 {
-    let count = counted_labels(query);
-    let mut row = with_match(no_matches(0), 0, value_at(image, 1));
+    let labels = counted_labels(query);
+    let mut lengths = [0u32; LENGTH_COUNT];
+    let mut values = [0u32; LENGTH_COUNT];
+    let mut count = put_match(&mut lengths, &mut values, 0, 0, value_at(image, 1));
     let mut n: u32 = 1;
     let mut i: u32 = 0;
-    while i < count {
+    while i < labels {
         let Found::Is(t) = step_by(image, n, label_at(query, i as usize)) else {
-            return row;
+            break;
         };
+        let length = i + 1;
+        count = put_match(&mut lengths, &mut values, count, length, value_at(image, t));
         n = t;
-        i += 1;
-        row = with_match(row, i, value_at(image, n));
+        i = length;
     }
-    row
+    Prefixes {
+        refusal: 0,
+        count,
+        lengths,
+        values,
+    }
 }
 
 // The later of two lengths, if it has a value.
@@ -91,17 +98,18 @@ pub fn longest_match(image: &[u8], query: &[u8]) -> u32
     requires { ⌜ Passed (now image) ⌝ }
     ensures { λ r. ⌜ r ≡ lastLength (prefixMatches (now (image .entry)) (now (query .entry))) ⌝ }
 {
-    let count = counted_labels(query);
+    let labels = counted_labels(query);
     let mut longest: u32 = 0;
     let mut n: u32 = 1;
     let mut i: u32 = 0;
-    while i < count {
+    while i < labels {
         let Found::Is(t) = step_by(image, n, label_at(query, i as usize)) else {
-            return longest;
+            break;
         };
+        let length = i + 1;
+        longest = later_length(longest, length, value_at(image, t));
         n = t;
-        i += 1;
-        longest = later_length(longest, i, value_at(image, n));
+        i = length;
     }
     longest
 }

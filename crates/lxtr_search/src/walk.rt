@@ -54,10 +54,10 @@ pub fn step_by(image: &[u8], n: u32, label: u32) -> Found
     requires { ⌜ n < slotCount (now image) ⌝ }
     ensures { λ r. ⌜ found r ≡ stepBy (now (image .entry)) n label ⌝ }
 {
-    let Found::Is(code) = code_of(image, label) else {
-        return Found::Nothing;
-    };
-    step(image, n, code)
+    match code_of(image, label) {
+        Found::Is(code) => step(image, n, code),
+        Found::Nothing => Found::Nothing,
+    }
 }
 
 // The slot that all labels of a query reach from slot 1.

@@ -10,10 +10,12 @@ probe-spec =
     tie.close
     (tie.spec
     (λ c κs. search needs)
+    (λ c κs. search needs)
     (λ c. search probe-refused)
     (λ c κs. search search-passed)
     (λ c. search needs)
     (λ c. search needs)
+    (λ c κs. search needs)
     (λ c. search probe-nowhere)
     (λ c κs. (search search-passed, search (within-below, search-passed)))
     (λ c κs. (search search-passed, search (within-below, search-passed)))

@@ -1,5 +1,5 @@
 -- Invariant: n is the slot that the first i labels reach, and `longest` the last length with a value up to i.
--- Each turn is one of the laws of `Walking` and `Rows`; where the walk stops or ends, this is the last of all.
+-- Each turn is one of the laws of `Matches` and `Rows`; where the walk stops or ends, this is the last of all.
 use borrow.Author.Needs.{needs}
 use Prim.Native.Nat.{_-_}
 use mathlib.Core.Path.{_≡_}
@@ -12,10 +12,10 @@ use Rattle.lxtr_search.proofs.matches.longest_match.Statement.{statemen
 use Rattle.lxtr_search.proofs.matches.longest_match.Tie as tie
 
 abbrev Inv-loop : tie.InvT-loop
-Inv-loop image query count longest₀ n₀ i₀ longest n i = (count ≡ length (counted query)) × Walked image (counted query) i n × (longest ≡ lastLength (matchesTo image query i))
+Inv-loop image query labels longest₀ n₀ i₀ longest n i = (labels ≡ length (counted query)) × Walked image (counted query) i n × (longest ≡ lastLength (matchesTo image query i))
 
 abbrev μ-loop : tie.MeasureT-loop
-μ-loop image query count longest₀ n₀ i₀ longest n i = count - i
+μ-loop image query labels longest₀ n₀ i₀ longest n i = labels - i
 
 pub longest-match-spec : {M : Type 1} → statement M
 longest-match-spec =
@@ -30,10 +30,10 @@ longest-match-spec =
     (λ c κs. search needs)
     (λ c. search needs)
     (λ c. search needs)
-    (λ c. search (kept-stop lastLength))
     (λ c. search needs)
     (λ c κs. (search needs, search counted-below))
     (λ c κs. search needs)
     (λ c. search needs)
     (λ c. (search needs, search counted-next, search (last-next, counted-next)))
-    (λ c. search (kept-end lastLength)))
+    (λ c. search (kept-end lastLength))
+    (λ c. search (kept-stop lastLength)))

@@ -1,6 +1,6 @@
--- A slot that is not there is nobody's child.
+-- A slot that is not there has no parent; of one that is there the parent is compared.
 use borrow.Author.Needs.{needs}
-use borrow.Author.Tests.{lt-ltb, le-ltb}
+use Rattle.lxtr_laws.specs.Stepping.{parent-outside, parent-inside}
 use Rattle.lxtr_search.proofs.walk.has_parent.Statement.{statement}
 use Rattle.lxtr_search.proofs.walk.has_parent.Tie as tie
 
@@ -9,6 +9,6 @@ has-parent-spec =
     tie.close
     (tie.spec
     (λ c κs. search needs)
-    (λ c. rw (← c .before .slot-count .ensures, le-ltb _ _ (c .if1 .taken)))
+    (λ c. search parent-outside)
     (λ c κs. search needs)
-    (λ c. rw (← c .before .before .slot-count .ensures, lt-ltb _ _ (c .before .if1 .left), c .parent-of .ensures)))
+    (λ c. search parent-inside))

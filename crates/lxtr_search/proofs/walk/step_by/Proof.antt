@@ -10,7 +10,7 @@ step-by-spec =
     (tie.spec
     (λ c κs. search needs)
     (λ c. search needs)
-    (λ c. search needs)
-    (λ c. search step-unlisted)
     (λ c κs. search needs)
-    (λ c. search step-listed))
+    (λ c. search needs)
+    (λ c. search step-listed)
+    (λ c. search step-unlisted))

@@ -1,17 +1,18 @@
--- A row has a place for each possible length; the next free one is filled.
+-- The next free place of both arrays is filled, if there is a value.
 use borrow.Author.Needs.{needs}
 use Rattle.lxtr_spec.specs.Labels.{maxLabels}
-use Rattle.lxtr_search.proofs.matches.with_match.Statement.{statement}
-use Rattle.lxtr_search.proofs.matches.with_match.Tie as tie
+use Rattle.lxtr_search.proofs.matches.put_match.Statement.{statement}
+use Rattle.lxtr_search.proofs.matches.put_match.Tie as tie
 
-pub with-match-spec : {M : Type 1} → statement M
+pub put-match-spec : {M : Type 1} → statement M
 unfolding maxLabels
-with-match-spec =
+put-match-spec =
     tie.close
     (tie.spec
     (λ c. search needs)
     (λ c. search needs)
     (λ c. rw (c .enum-told .given .1))
+    (λ c. search needs)
     (λ c. search needs)
     (λ c. search needs)
     (λ c. search needs)
