@@ -27,7 +27,7 @@ counted q = take maxLabels (labelsOf q)
 abbrev pub matchesTo : List ℕ → List ℕ → ℕ → List (ℕ × ℕ)
 matchesTo b q i = concatFrom (i + 1) 0 (matchAt (valueOf b) (counted q))
 
--- m is how many labels there are
+-- how many these are; m is the number of all labels
 module _ (q : List ℕ) (m : ℕ) (count : m ≡ length (labelsOf q)) where
   pub counted-all : m < maxLabels → m ≡ length (counted q)
   counted-all h = omega (arith, length-take maxLabels (labelsOf q))
@@ -62,7 +62,7 @@ module _ (b q : List ℕ) where
     pub counted-place : i < m → i < length (labelsOf q)
     counted-place h = omega (arith, length-take maxLabels (labelsOf q))
 
-    -- the step by the next label x, which answered f
+    -- f is what the step by the next label x answered
     module _ (x : ℕ) (f : Found) (turn : i < m) (label : x ≡ getD (labelsOf q) i 0) (answer : found f ≡ stepBy b n x) where
       same-label : x ≡ getD (counted q) i 0
       same-label = label ∙ sym (getD-take maxLabels (labelsOf q) i 0 (omega (arith, length-take maxLabels (labelsOf q))))

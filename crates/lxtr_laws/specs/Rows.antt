@@ -1,11 +1,10 @@
 -- What a loop keeps of the matches that it meets: the row that Prefixes answers, or the last length.
 -- One more match changes either as it changes the list of matches.
-use Prim.Native.Nat.{ℕ, zero, suc, _+_, _*_, _≤_, _<_}
+use Prim.Native.Nat.{ℕ, zero, suc, _+_, _*_, _-_, _≤_, _<_}
 use mathlib.Core.Path.{_≡_, refl, sym, ap, _∙_}
 use mathlib.Core.List.{List, [], _∷_, _++_, map, map-append, append-assoc, append-nil}
 use mathlib.Core.Option.{Option, some, none}
 use native.Mathlib.Nat.{zero-add, le-refl}
-use native.Mathlib.Numerals.{add-one}
 use native.Mathlib.Omega.{arith}
 use lib.ListN.{length, take, set, length-append, length-map, length-take}
 use lib.Seq.{set-append-seam, length-take-le}
@@ -63,25 +62,20 @@ later-within : (before k n : ℕ) (o : Option ℕ) → before ≤ n → k ≤ n 
 later-within before k n none h l = h
 later-within before k n (some v) h l = l
 
--- no length is above the last that was tried
-module _ (f : List ℕ → Option ℕ) (xs : List ℕ) where
-  last-tried : (n : ℕ) → lastLength (concatFrom n 0 (matchAt f xs)) ≤ n → lastLength (concatFrom (suc n) 0 (matchAt f xs)) ≤ n
-  unfolding matchAt
-  last-tried n h = rw (concat-more (matchAt f xs) n 0, zero-add, last-more) (later-within (lastLength (concatFrom n 0 (matchAt f xs))) n n (f (take n xs)) h (le-refl n))
-
-  last-up-to : (n : ℕ) → lastLength (concatFrom n 0 (matchAt f xs)) ≤ n
-  unfolding concatFrom lastLength
-  last-up-to zero = le-refl 0
-  last-up-to (suc n) = omega (arith, last-tried n (last-up-to n))
+-- of the lengths below n the last is at most n - 1
+last-within : (f : List ℕ → Option ℕ) (xs : List ℕ) (n : ℕ) → lastLength (concatFrom n 0 (matchAt f xs)) ≤ n - 1
+unfolding concatFrom lastLength matchAt
+last-within f xs zero = omega arith
+last-within f xs (suc n) =
+    let before = lastLength (concatFrom n 0 (matchAt f xs)) in
+    let h : laterLength before n (f (take n xs)) ≤ n = later-within before n n (f (take n xs)) (omega (arith, last-within f xs n)) (le-refl n) in
+    rw (concat-more (matchAt f xs) n 0, zero-add, last-more) (omega (arith, h))
 
 module _ (b q : List ℕ) where
   -- the longest match is a part of the query
   longest-within : 4 * lastLength (prefixMatches b q) ≤ length q
   unfolding prefixMatches matches
-  longest-within =
-      let n = length (counted q) in
-      let h = last-tried (valueOf b) (counted q) n (last-up-to (valueOf b) (counted q) n) in
-      omega (arith, rw (← (add-one n)) at h, length-take maxLabels (labelsOf q), label-count q)
+  longest-within = omega (arith, last-within (valueOf b) (counted q) (length (counted q) + 1), length-take maxLabels (labelsOf q), label-count q)
 
   pub longest-part : (n : ℕ) → n ≡ lastLength (prefixMatches b q) → 4 * n ≡ length (take (4 * n) q)
   longest-part n e = sym (length-take-le (4 * n) q (rw e longest-within))
@@ -104,4 +98,4 @@ module _ (b q : List ℕ) where
   row-room n ks vs m i e c h = omega (arith, ap (λ (r : Prefixes). r .count) e, match-count b q i, length-take maxLabels (labelsOf q))
 
   pub last-start : 0 ≡ lastLength (matchesTo b q 0)
-  last-start = omega (arith, last-tried (valueOf b) (counted q) 0 (last-up-to (valueOf b) (counted q) 0))
+  last-start = omega (arith, last-within (valueOf b) (counted q) 1)

@@ -1,7 +1,7 @@
 -- The searches as the code makes them: first the refusals, and then an answer that is the definition's.
 -- r is the refusal that a call answered.
 use Prim.Native.Nat.{ℕ, zero, suc, _*_, _%_}
-use mathlib.Core.Path.{_≡_, refl, sym, ap, _∙_}
+use mathlib.Core.Path.{_≡_, refl, sym, _∙_}
 use mathlib.Core.List.{List, []}
 use mathlib.Core.Option.{none}
 use mathlib.Core.Bool.{Bool, false}
@@ -17,6 +17,7 @@ use Rattle.lxtr_spec.specs.declared.Found.the-variants.{Is, Nothing}
 use Rattle.lxtr_spec.specs.declared.Prefixes.{Prefixes}
 use Rattle.lxtr_spec.specs.declared.Probe.{Probe}
 use Rattle.lxtr_laws.specs.Refusing.{none-first}
+use Rattle.lxtr_laws.specs.Stepping.{found-is, found-none}
 use Rattle.lxtr_laws.specs.Passed.{Passed, header-passed}
 
 -- a refusal stands in front of what comes after it
@@ -85,9 +86,9 @@ module _ (b q : List ℕ) (r : ℕ) where
       module _ (f : Found) (walked : found f ≡ walkWithin b (labelsOf q)) where
         pub probe-nowhere : (p : Probe) → f ≡ Nothing → probeMeans p ≡ probeAnswer 0 none false → probeMeans p ≡ probeOf b q
         unfolding probeOf probeAt unlessRefused
-        probe-nowhere p h e = rw (sym known ∙ z, sym walked ∙ ap found h) e
+        probe-nowhere p h e = rw (sym known ∙ z, found-none f (walkWithin b (labelsOf q)) walked h) e
 
         pub probe-reached : (n : ℕ) (v : Found) (l : Bool) → f ≡ Is n → found v ≡ valueAt b n → l ≡ longerAt b n
             → _≡_ {A = ProbeAnswer} (record { refusal = 0; value = found v; longer = l }) (probeOf b q)
         unfolding probeOf probeAt probeAnswer unlessRefused
-        probe-reached n v l h e k = rw (sym known ∙ z, sym walked ∙ ap found h, e, k)
+        probe-reached n v l h e k = rw (sym known ∙ z, found-is f n (walkWithin b (labelsOf q)) walked h, e, k)

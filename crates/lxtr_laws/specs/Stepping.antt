@@ -3,7 +3,7 @@
 use Prim.Native.Nat.{ℕ, _≤_, _<_}
 use mathlib.Core.Path.{_≡_, sym, ap, _∙_}
 use mathlib.Core.List.{List}
-use mathlib.Core.Option.{some, none}
+use mathlib.Core.Option.{Option, some, none}
 use mathlib.Core.Bool.{Bool, true, false, not, _&&_}
 use lib.Dec.{ltb, eqb}
 use borrow.Author.Tests.{lt-ltb, le-ltb}
@@ -15,7 +15,14 @@ use Rattle.lxtr_spec.specs.declared.Found.the-variants.{Is, Nothing}
 use Rattle.lxtr_laws.specs.Tests.{outcome, not-is-true, not-is-false}
 use Rattle.lxtr_laws.specs.Steps.{step-is}
 
--- whether slot t, of as many as there are, has n as parent
+-- what an answer that was matched on says
+pub found-is : (f : Found) (t : ℕ) (o : Option ℕ) → found f ≡ o → f ≡ Is t → o ≡ some t
+found-is f t o e h = sym e ∙ ap found h
+
+pub found-none : (f : Found) (o : Option ℕ) → found f ≡ o → f ≡ Nothing → o ≡ none
+found-none f o e h = sym e ∙ ap found h
+
+-- whether slot t exists and has n as parent
 module _ (b : List ℕ) (t n slots : ℕ) (count : slots ≡ slotCount b) where
   pub parent-outside : slots ≤ t → false ≡ (ltb t (slotCount b) && eqb (parent b t) n)
   parent-outside h = rw (← count, le-ltb t slots h)
@@ -46,17 +53,17 @@ module _ (b : List ℕ) (n c : ℕ) where
 
   -- f is what the step answered
   pub step-below : (f : Found) (t : ℕ) → found f ≡ step b n c → f ≡ Is t → t < slotCount b
-  step-below f t e h = step-is b n c t .0 (sym e ∙ ap found h) .below
+  step-below f t e h = step-is b n c t .0 (found-is f t (step b n c) e h) .below
 
 -- a step by label x, for which the code map answered f
 module _ (b : List ℕ) (n x : ℕ) (f : Found) (code : found f ≡ codeOf b x) where
   pub step-unlisted : f ≡ Nothing → none ≡ stepBy b n x
   unfolding stepBy
-  step-unlisted h = rw (stepBy, sym code ∙ ap found h)
+  step-unlisted h = rw (stepBy, found-none f (codeOf b x) code h)
 
   pub step-listed : (c : ℕ) (r : Found) → f ≡ Is c → found r ≡ step b n c → found r ≡ stepBy b n x
   unfolding stepBy
-  step-listed c r h e = rw (stepBy, sym code ∙ ap found h, e)
+  step-listed c r h e = rw (stepBy, found-is f c (codeOf b x) code h, e)
 
 -- the value at slot n, whose HAS_LEAF is h
 module _ (b : List ℕ) (n : ℕ) (h : Bool) (flag : h ≡ hasLeaf b n) where
@@ -68,16 +75,16 @@ module _ (b : List ℕ) (n : ℕ) (h : Bool) (flag : h ≡ hasLeaf b n) where
   module _ (f : Found) (set : not h ≡ false) (end : found f ≡ step b n 0) where
     pub value-no-end : f ≡ Nothing → none ≡ valueAt b n
     unfolding valueAt
-    value-no-end k = rw (valueAt, outcome h _ _ flag (not-is-false h .0 set), sym end ∙ ap found k)
+    value-no-end k = rw (valueAt, outcome h _ _ flag (not-is-false h .0 set), found-none f (step b n 0) end k)
 
     module _ (t : ℕ) (l : Bool) (is : f ≡ Is t) (leaf : l ≡ isLeaf b t) where
       pub value-no-leaf : not l ≡ true → none ≡ valueAt b n
       unfolding valueAt leafValue
-      value-no-leaf k = rw (valueAt, outcome h _ _ flag (not-is-false h .0 set), sym end ∙ ap found is, outcome l _ _ leaf (not-is-true l .0 k))
+      value-no-leaf k = rw (valueAt, outcome h _ _ flag (not-is-false h .0 set), found-is f t (step b n 0) end is, outcome l _ _ leaf (not-is-true l .0 k))
 
       pub value-at-leaf : (v : ℕ) → not l ≡ false → v ≡ valueNumber b t → some v ≡ valueAt b n
       unfolding valueAt leafValue
-      value-at-leaf v k e = rw (valueAt, outcome h _ _ flag (not-is-false h .0 set), sym end ∙ ap found is, outcome l _ _ leaf (not-is-false l .0 k), e)
+      value-at-leaf v k e = rw (valueAt, outcome h _ _ flag (not-is-false h .0 set), found-is f t (step b n 0) end is, outcome l _ _ leaf (not-is-false l .0 k), e)
 
 -- whether longer keys exist at slot n, whose HAS_LEAF is h and whose list has width w
 module _ (b : List ℕ) (n : ℕ) (h : Bool) (w : ℕ) (flag : h ≡ hasLeaf b n) (width : w ≡ listWidth b n) where

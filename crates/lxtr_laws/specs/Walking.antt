@@ -20,19 +20,14 @@ use Rattle.lxtr_spec.specs.declared.Found.the-variants.{Is, Nothing}
 use borrow.Author.Tests.{lt-ltb, le-ltb}
 use Rattle.lxtr_laws.specs.Passed.{Passed}
 use Rattle.lxtr_laws.specs.Keys.{Last, empty, snoc, last}
+use Rattle.lxtr_laws.specs.Stepping.{found-is, found-none}
 use Rattle.lxtr_laws.specs.Steps.{none-not-some, some-same, step-by-is, walk-empty, walk-append, walk-snoc}
 
+-- the first i labels reach slot n, which is one of the image's
 pub record Walked (b xs : List ℕ) (i n : ℕ) : Type 0 where
   pub so-far : i ≤ length xs
   pub below : n < slotCount b
   pub reached : walk b 1 (take i xs) ≡ some n
-
--- what an answer that was matched on says
-pub found-is : (f : Found) (t : ℕ) (o : Option ℕ) → found f ≡ o → f ≡ Is t → o ≡ some t
-found-is f t o e r = sym e ∙ ap found r
-
-pub found-none : (f : Found) (o : Option ℕ) → found f ≡ o → f ≡ Nothing → o ≡ none
-found-none f o e r = sym e ∙ ap found r
 
 -- what cannot be found is not there
 is-none : (o : Option ℕ) → ((t : ℕ) → o ≡ some t → ⊥) → o ≡ none
@@ -47,7 +42,7 @@ module _ (b xs : List ℕ) where
     pub walked-place : i < m → i < length xs
     walked-place h = omega arith
 
-    -- the step by the next label x, which answered f
+    -- f is what the step by the next label x answered
     module _ (x : ℕ) (f : Found) (turn : i < m) (label : x ≡ getD xs i 0) (answer : found f ≡ stepBy b n x) where
       one-more : take (i + 1) xs ≡ take i xs ++ x ∷ []
       one-more = rw label (ap (λ (k : ℕ). take k xs) (add-one i) ∙ take-suc xs i 0 (omega arith))

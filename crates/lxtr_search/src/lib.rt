@@ -1,5 +1,9 @@
 // Searches LXTR images: exact match, prefixes, longest match and probe, for any bytes as image and query.
 // They walk every image that passes refusals 1 to 8, whether or not the check would accept it.
+pub mod query; // the labels of a query, and the refusals before a search
+pub mod walk; // one step, the walk, and what is found where it ends
+pub mod matches; // the prefixes of a query that have a value
+
 ghost use mathlib.Core.Path.{_≡_};
 ghost use mathlib.Core.Option.{none};
 ghost use mathlib.Core.Bool.{false};
@@ -7,15 +11,6 @@ ghost use Rattle.lxtr_spec.specs.Searches.{exactValue, exactOf, prefixesOf, lon
 ghost use Rattle.lxtr_spec.specs.Labels.{labelsOf};
 ghost use Rattle.lxtr_spec.specs.Answers.{found, exactMeans, probeMeans};
 ghost use Rattle.lxtr_laws.specs.Passed.{Passed};
-use lxtr_spec::Exact;
-use lxtr_spec::Found;
-use lxtr_spec::Prefixes;
-use lxtr_spec::Probe;
-
-pub mod query; // the labels of a query, and the refusals before a search
-pub mod walk; // one step, the walk, and what is found where it ends
-pub mod matches; // the prefixes of a query that have a value
-
 use crate::matches::longest_match;
 use crate::matches::no_matches;
 use crate::matches::prefix_matches;
@@ -23,6 +18,10 @@ use crate::query::search_refusal;
 use crate::walk::longer_at;
 use crate::walk::value_at;
 use crate::walk::walk_within;
+use lxtr_spec::Exact;
+use lxtr_spec::Found;
+use lxtr_spec::Prefixes;
+use lxtr_spec::Probe;
 
 // The value of the whole query, in an image that passed.
 fn exact_value(image: &[u8], query: &[u8]) -> Found
@@ -63,7 +62,7 @@ pub fn prefixes(image: &[u8], query: &[u8]) -> Prefixes
     prefix_matches(image, query)
 }
 
-// The longest of these prefixes, as the front part of the lent query; empty if there is none.
+// The longest of these prefixes, as the front part of the lent query; empty if there is none. The refusal goes into `refusal`.
 pub fn longest<'a>(image: &[u8], query: &'a [u8], refusal: &mut u8) -> &'a [u8]
     ensures { λ r. ⌜ record { refusal = now (refusal .exit); part = now r } ≡ longestOf (now (image .entry)) (now (query .entry)) ⌝ }
 {
@@ -76,8 +75,8 @@ pub fn longest<'a>(image: &[u8], query: &'a [u8], refusal: &mut u8) -> &'a [u8]
     &query[..end]
 }
 
-// A probe that finds nothing.
-fn nothing_probed(refusal: u8) -> Probe
+// The probe where there is nothing to find.
+fn nothing_found(refusal: u8) -> Probe
     ensures { λ r. ⌜ probeMeans r ≡ probeAnswer refusal none false ⌝ }
 {
     Probe {
@@ -93,10 +92,10 @@ pub fn probe(image: &[u8], query: &[u8]) -> Probe
 {
     let refusal = search_refusal(image, query);
     if refusal != 0 {
-        return nothing_probed(refusal);
+        return nothing_found(refusal);
     }
     let Found::Is(n) = walk_within(image, query) else {
-        return nothing_probed(0);
+        return nothing_found(0);
     };
     Probe {
         refusal: 0,

@@ -40,7 +40,7 @@ pub fn no_matches(refusal: u8) -> Prefixes
     }
 }
 
-// One more match after the first `count`, if there is a value; answers how many there are then.
+// Puts a match of length k after the first `count`, if there is a value, and answers how many there are then.
 fn put_match(lengths: &mut [u32], values: &mut [u32], count: u32, k: u32, value: Found) -> u32
     requires { ⌜ count < lengthCount ⌝ }
     requires { ⌜ length (now lengths) ≡ lengthCount ⌝ }
@@ -83,17 +83,17 @@ pub fn prefix_matches(image: &[u8], query: &[u8]) -> Prefixes
     }
 }
 
-// The later of two lengths, if it has a value.
-fn later_length(before: u32, length: u32, value: Found) -> u32
-    ensures { λ r. ⌜ r ≡ laterLength before length (found value) ⌝ }
+// Length k if it has a value, otherwise the one before.
+fn later_length(before: u32, k: u32, value: Found) -> u32
+    ensures { λ r. ⌜ r ≡ laterLength before k (found value) ⌝ }
 {
     match value {
-        Found::Is(_) => length,
+        Found::Is(_) => k,
         Found::Nothing => before,
     }
 }
 
-// The length in labels of the last; 0 if there is none.
+// The length of the last of them; 0 if there is none.
 pub fn longest_match(image: &[u8], query: &[u8]) -> u32
     requires { ⌜ Passed (now image) ⌝ }
     ensures { λ r. ⌜ r ≡ lastLength (prefixMatches (now (image .entry)) (now (query .entry))) ⌝ }
