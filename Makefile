@@ -3,8 +3,8 @@
 
 run:
 	@mkdir -p target
-	@rt check header_refusals > target/run.log 2>&1 || { cat target/run.log; exit 1; }
-	@target/bin/header_refusals
+	@rt check search_examples > target/run.log 2>&1 || { cat target/run.log; exit 1; }
+	@target/bin/search_examples
 
 test:
 	@bash .ci/run

@@ -15,11 +15,15 @@ use Rattle.lxtr_search.proofs.matches.prefix_matches.Statement.{stateme
 use Rattle.lxtr_search.proofs.matches.prefix_matches.Tie as tie
 
 abbrev Inv-loop : tie.InvT-loop
-Inv-loop image query labels lengths₀ values₀ count₀ n₀ i₀ lengths values count n i = (labels ≡ length (counted query)) × Walked image (counted query) i n × (row count lengths values ≡ prefixesAnswer 0 (matchesTo image query i)) × (length lengths ≡ lengthCount) × (length values ≡ lengthCount)
+Inv-loop image query labels lengths₀ values₀ count₀ n₀ i₀ lengths values count n i =
+    (labels ≡ length (counted query)) × Walked image (counted query) i n
+    × (row count lengths values ≡ prefixesAnswer 0 (matchesTo image query i))
+    × (length lengths ≡ lengthCount) × (length values ≡ lengthCount)
 
 abbrev μ-loop : tie.MeasureT-loop
 μ-loop image query labels lengths₀ values₀ count₀ n₀ i₀ lengths values count n i = labels - i
 
+-- before the first match
 zeros : row 0 (replicate lengthCount 0) (replicate lengthCount 0) ≡ prefixesAnswer 0 []
 unfolding maxLabels prefixesAnswer
 zeros = refl
