@@ -1,5 +1,5 @@
 -- Demand 2 for the searches and completions: what each answers over an image is what the image's set of pairs says.
--- Only the statements; the proofs are `demand2` in Laws/Demand2.antt and `searches` in Laws/Searches.antt.
+-- Only the statements; the proofs are `demand2` in Laws/Demand2.antt and `searches-agree` in Laws/Searches.antt.
 use Prim.Native.Nat.{ℕ, _*_, _%_, _≤_}
 use mathlib.Core.Path.{_≡_}
 use mathlib.Core.Logic.{_↔_}
@@ -13,10 +13,12 @@ use Rattle.lxtr_spec.specs.Completions.{listingOf, roomFor, completionOf}
 use Rattle.lxtr_spec.specs.Sets.{PairSet, ImageOf}
 use Rattle.lxtr_spec.specs.Meaning.{PrefixesIn, LongestIn, Longer, Lists, FittingFront}
 
--- what the four searches answer to the query q, whose labels are xs, by the set d
+-- exact, prefixes, longest and probe's value for the query q, whose labels are xs, by the set d
 pub record Searched (b : List ℕ) (d : PairSet) (q xs : List ℕ) : Type 0 where
   -- Exact: the value number or none.
   pub exact : exactOf b q ≡ record { refusal = 0; value = d xs }
+  -- And of each front part of the query.
+  pub exact-front : (n : ℕ) → 4 * n ≤ length q → exactOf b (take (4 * n) q) ≡ record { refusal = 0; value = d (take n xs) }
   -- Prefixes: length and value of each prefix that is a key, shortest first. There is one such list.
   pub prefixes : (ms : List (ℕ × ℕ)) → PrefixesIn d xs ms → prefixesOf b q ≡ prefixesAnswer 0 ms
   pub some-prefixes : (ms : List (ℕ × ℕ)) × PrefixesIn d xs ms
@@ -25,11 +27,11 @@ pub record Searched (b : List ℕ) (d : PairSet) (q xs : List ℕ) : Type 0 wher
   pub longest : (n : ℕ) → LongestIn d xs n → longestOf b q ≡ record { refusal = 0; part = take (4 * n) q }
   pub some-longest : (n : ℕ) × LongestIn d xs n
   pub one-longest : (m n : ℕ) → LongestIn d xs m → LongestIn d xs n → m ≡ n
-  -- Probe: value or none. (Whether longer keys exist is said below.)
+  -- Probe: value or none.
   pub probe-refusal : probeOf b q .refusal ≡ 0
   pub probe-value : probeOf b q .value ≡ d xs
 
--- and all answers to it, over an image b of the set d
+-- these and the other answers, over an image b of the set d
 pub record Answered (b : List ℕ) (d : PairSet) (q xs : List ℕ) : Type 0 where
   pub searched : Searched b d q xs
   -- Probe: whether longer keys exist.
@@ -48,8 +50,8 @@ pub record Answered (b : List ℕ) (d : PairSet) (q xs : List ℕ) : Type 0 wher
 abbrev pub Demand2 : Type 0
 Demand2 = (b : List ℕ) (d : PairSet) (q : List ℕ) → ImageOf b d → length q % 4 ≡ 0 → Answered b d q (labelsOf q)
 
--- What of this needs no check: over all bytes that pass 1 to 8, accepted or not, the searches speak of the same pairs.
--- These are the pairs that exact finds. So prefixes are the lengths and values at which exact finds a value, longest is the
--- last of them, and probe's value is exact's.
+-- What of this needs no check: where 1 to 8 and 13 refuse nothing, and whether or not the image is accepted, the searches speak
+-- of the same pairs, those that exact finds. So prefixes are the lengths and values at which exact finds a value, longest is
+-- the last of them, and probe's value is exact's.
 abbrev pub SearchesAgree : Type 0
 SearchesAgree = (b q : List ℕ) → searchRefusal b q ≡ 0 → Searched b (exactValue b) q (labelsOf q)

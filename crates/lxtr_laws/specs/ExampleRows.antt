@@ -9,7 +9,7 @@ use Rattle.lxtr_spec.specs.Ranges.{anyBelow, countBelow, concatFrom}
 use Rattle.lxtr_spec.specs.Words.{le32, be32, leBytes, beBytes, leWords, beWords}
 use Rattle.lxtr_spec.specs.Labels.{Pair, isScalar, maxLabels, lengthCount, labelsFrom, labelsOf}
 use Rattle.lxtr_spec.specs.Joining.{slotUnder, codeUnder}
-use Rattle.lxtr_spec.specs.Image.{magic, version, slotCount, childCount, mapLength, baseWord, checkWord, isLeaf, hasLeaf, parent, base, valueNumber, slotFrom, codeTo, offset, child, listWidth, mapVersion, labelCount, labelAt, labelOfCode, codeFrom, codeOf}
+use Rattle.lxtr_spec.specs.Image.{magic, version, slotCount, childCount, mapLength, baseWord, checkWord, isLeaf, hasLeaf, parent, hasParent, base, valueNumber, slotFrom, codeTo, offset, child, listWidth, mapVersion, labelCount, labelAt, labelOfCode, codeFrom, codeOf}
 use Rattle.lxtr_spec.specs.Refusals.{refuseIf, firstRefusal, unlessRefused, tooShort, byteDiffers, magicDiffers, versionWrong, reservedSet, sizesWrong, lengthWrong, mapWrong, offsetEndsWrong, headerRefusal, sameLabel, labelWrong, labelsWrong, isUsedFrom2, isUsed, ownCode, bothZero, usedSlotWrong, endExists, flagWrong, slotWrong, slotsWrong, offsetFalls, usedCount, entryWrong, codeNotAbove, entryWrongIn, entriesWrong, childless, rootWrong, listsWrong, reaches, unreachable, someUnreachable, bodyRefusal, imageRefusal, isEnd, endCount, checkOf}
 use Rattle.lxtr_spec.specs.Walks.{step, stepBy, walk, walkWithin, leafValue, valueAt, valueReached, valueOf, longerAt}
 use Rattle.lxtr_spec.specs.Searches.{queryRefusal, searchRefusal, exactValue, exactOf, lengthMatch, matchAt, matches, prefixMatches, prefixesAnswer, prefixesOf, lastLength, longestLength, longestOf, probeAnswer, probeAt, probeOf}
@@ -79,5 +79,5 @@ a and b = (a, b)
 
 -- every definition that a row runs: to unfold this name is to unfold them all
 unfoldable pub computing : Unit {0}
-unfolding anyBelow countBelow le32 be32 leBytes beBytes leWords beWords isScalar maxLabels labelsFrom labelsOf slotUnder codeUnder magic version slotCount childCount mapLength baseWord checkWord isLeaf hasLeaf parent base valueNumber slotFrom codeTo offset child listWidth mapVersion labelCount labelAt labelOfCode codeFrom codeOf refuseIf firstRefusal unlessRefused tooShort byteDiffers magicDiffers versionWrong reservedSet sizesWrong lengthWrong mapWrong offsetEndsWrong headerRefusal sameLabel labelWrong labelsWrong isUsedFrom2 isUsed ownCode bothZero usedSlotWrong endExists flagWrong slotWrong slotsWrong offsetFalls usedCount entryWrong codeNotAbove entryWrongIn entriesWrong childless rootWrong listsWrong reaches unreachable someUnreachable bodyRefusal imageRefusal isEnd endCount checkOf step stepBy walk walkWithin leafValue valueAt valueReached valueOf longerAt queryRefusal searchRefusal exactValue exactOf lengthMatch matchAt matches prefixMatches prefixesAnswer prefixesOf lastLength longestLength longestOf probeAnswer probeAt probeOf concatFrom entryPairs listFrom pairsAt pairsBelow recordOf recordsOf fitting listingOf listedIn completionAnswer written completionRefusal completionOf refusalPart longerPart valuePart exactNumber probeNumber checkNumber longestNumber imageBytes p1 p2 nodes3 offsets3 children3 labels3 p3 p7 p8-check p8-slot p9-labels p9-longer p10 p11
+unfolding anyBelow countBelow le32 be32 leBytes beBytes leWords beWords isScalar maxLabels labelsFrom labelsOf slotUnder codeUnder magic version slotCount childCount mapLength baseWord checkWord isLeaf hasLeaf parent hasParent base valueNumber slotFrom codeTo offset child listWidth mapVersion labelCount labelAt labelOfCode codeFrom codeOf refuseIf firstRefusal unlessRefused tooShort byteDiffers magicDiffers versionWrong reservedSet sizesWrong lengthWrong mapWrong offsetEndsWrong headerRefusal sameLabel labelWrong labelsWrong isUsedFrom2 isUsed ownCode bothZero usedSlotWrong endExists flagWrong slotWrong slotsWrong offsetFalls usedCount entryWrong codeNotAbove entryWrongIn entriesWrong childless rootWrong listsWrong reaches unreachable someUnreachable bodyRefusal imageRefusal isEnd endCount checkOf step stepBy walk walkWithin leafValue valueAt valueReached valueOf longerAt queryRefusal searchRefusal exactValue exactOf lengthMatch matchAt matches prefixMatches prefixesAnswer prefixesOf lastLength longestLength longestOf probeAnswer probeAt probeOf concatFrom entryPairs listFrom pairsAt pairsBelow recordOf recordsOf fitting listingOf listedIn completionAnswer written completionRefusal completionOf refusalPart longerPart valuePart exactNumber probeNumber checkNumber longestNumber imageBytes p1 p2 nodes3 offsets3 children3 labels3 p3 p7 p8-check p8-slot p9-labels p9-longer p10 p11
 computing = tt

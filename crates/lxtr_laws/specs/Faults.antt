@@ -11,7 +11,7 @@ use lib.ListN.{length}
 use lib.Dec.{eqb}
 use Rattle.lxtr_spec.specs.Words.{byteAt}
 use Rattle.lxtr_spec.specs.Labels.{isScalar}
-use Rattle.lxtr_spec.specs.Image.{headerLength, magic, slotCount, childCount, mapLength, isLeaf, parent, base, offset, labelCount, labelAt}
+use Rattle.lxtr_spec.specs.Image.{headerLength, magic, slotCount, childCount, mapLength, isLeaf, parent, hasParent, base, offset, labelCount, labelAt}
 use Rattle.lxtr_spec.specs.Refusals.{tooShort, byteDiffers, magicDiffers, versionWrong, reservedSet, sizesWrong, lengthWrong, mapWrong, offsetEndsWrong, headerRefusal, sameLabel, labelWrong, labelsWrong, isUsedFrom2, isUsed, bothZero, usedSlotWrong, endExists, flagWrong, slotWrong, slotsWrong, offsetFalls, entryWrong, codeNotAbove, entryWrongIn, entriesWrong, childless, rootWrong, listsWrong, reaches, unreachable, someUnreachable, bodyRefusal, imageRefusal, isEnd}
 use Rattle.lxtr_spec.specs.Sets.{InList}
 use Rattle.lxtr_laws.specs.Ranges.{below-suc}
@@ -95,10 +95,10 @@ module _ (b : List ℕ) where
 
   -- the step by code 0 from s exists, and comes to its base
   pub end-exists : (s : ℕ) → (endExists b s ≡ true) ↔ Stepped b s 0 (base b s)
-  unfolding endExists
+  unfolding endExists hasParent
   end-exists s = simp tests (
-    λ ((inner, below), up). record { inner = inner; below = below; up = up; at = sym (slot-of-base b s) },
-    λ t. ((t .inner, t .below), t .up),
+    λ (inner, (below, up)). record { inner = inner; below = below; up = up; at = sym (slot-of-base b s) },
+    λ t. (t .inner, (t .below, t .up)),
   )
 
   -- none does from a leaf

@@ -1,5 +1,5 @@
 -- Facts about the definitions of `lxtr_spec`, each stated once. Of these a reader of contracts meets the three records of Passed,
--- and in private functions of `lxtr_search` the definitions that open Rows.
+-- and in private functions of `lxtr_search` the definitions that open Kept.
 pub mod Tests
 pub mod Ranges
 pub mod Refusing
@@ -18,7 +18,7 @@ pub mod Stepping
 pub mod Queries
 pub mod Walking
 pub mod Matches
-pub mod Rows
+pub mod Kept
 pub mod Searches
 -- Tables of examples.
 pub mod ExampleRows

@@ -1,10 +1,11 @@
--- The labels of a query: how many there are, and where the bytes of each lie.
+-- The labels of a query: how many there are, where the bytes of each lie, and the labels of a front part.
 use Prim.Native.Nat.{ℕ, zero, suc, _+_, _*_, _/_, _<_, _≤_}
 use mathlib.Core.Path.{_≡_, refl, sym, ap, _∙_}
 use mathlib.Core.List.{List}
 use native.Mathlib.Nat.{add-zero, zero-add, not-suc-le-zero}
 use native.Mathlib.Omega.{arith}
-use lib.ListN.{length, getD}
+use lib.ListN.{length, getD, take}
+use lib.Seq.{length-take-le, getD-take, ext-getD}
 use Rattle.lxtr_spec.specs.Words.{be32}
 use Rattle.lxtr_spec.specs.Labels.{labelsFrom, labelsOf}
 
@@ -32,3 +33,19 @@ module _ (q : List ℕ) where
     pub label-read : (x : ℕ) → x ≡ be32 q (4 * i) → x ≡ getD (labelsOf q) i 0
     unfolding labelsOf
     label-read x e = e ∙ sym (rw zero-add at (label-from (length q / 4) 0 i (omega (arith, label-count))))
+
+-- the first n labels are those of the first 4 * n bytes
+module _ (q : List ℕ) (n : ℕ) (h : 4 * n ≤ length q) where
+  front-count : length (labelsOf (take (4 * n) q)) ≡ n
+  front-count = omega (arith, label-count (take (4 * n) q), length-take-le (4 * n) q h)
+
+  front-read : (i : ℕ) → i < n → be32 (take (4 * n) q) (4 * i) ≡ be32 q (4 * i)
+  unfolding be32
+  front-read i l = rw (getD-take (4 * n) q (4 * i) 0 (omega arith), getD-take (4 * n) q (4 * i + 1) 0 (omega arith), getD-take (4 * n) q (4 * i + 2) 0 (omega arith), getD-take (4 * n) q (4 * i + 3) 0 (omega arith))
+
+  pub front-labels : labelsOf (take (4 * n) q) ≡ take n (labelsOf q)
+  front-labels = ext-getD 0 (labelsOf (take (4 * n) q)) (take n (labelsOf q))
+      (omega (arith, front-count, length-take-le n (labelsOf q) (omega (arith, label-count q))))
+      (λ i l. sym (label-read (take (4 * n) q) i l (be32 q (4 * i)) (sym (front-read i (omega (arith, front-count)))))
+      ∙ label-read q i (omega (arith, front-count, label-count q)) (be32 q (4 * i)) refl
+      ∙ sym (getD-take n (labelsOf q) i 0 (omega (arith, front-count))))

@@ -1,22 +1,23 @@
 -- The searches as the code makes them: first the refusals, and then an answer that is the definition's.
--- r is the refusal that a call answered.
 use Prim.Native.Nat.{ℕ, zero, suc, _*_, _%_}
 use mathlib.Core.Path.{_≡_, refl, sym, _∙_}
+use mathlib.Core.Logic.{_↔_}
 use mathlib.Core.List.{List, []}
 use mathlib.Core.Option.{none}
 use mathlib.Core.Bool.{Bool, false}
 use lib.ListN.{length, take}
-use borrow.Author.Tests.{eq-eqb, ne-eqb}
+use borrow.Author.Tests.{ne-eqb}
 use Rattle.lxtr_spec.specs.Labels.{labelsOf}
 use Rattle.lxtr_spec.specs.Refusals.{refuseIf, firstRefusal, unlessRefused, headerRefusal}
-use Rattle.lxtr_spec.specs.Walks.{walkWithin, valueAt, longerAt}
+use Rattle.lxtr_spec.specs.Walks.{walkWithin, valueAt, valueReached, longerAt}
 use Rattle.lxtr_spec.specs.Searches.{queryRefusal, searchRefusal, ExactAnswer, exactValue, exactOf, prefixMatches, prefixesAnswer, prefixesOf, LongestAnswer, lastLength, longestLength, longestOf, ProbeAnswer, probeAnswer, probeAt, probeOf}
 use Rattle.lxtr_spec.specs.Answers.{found, probeMeans}
 use Rattle.lxtr_spec.specs.declared.Found.{Found}
 use Rattle.lxtr_spec.specs.declared.Found.the-variants.{Is, Nothing}
 use Rattle.lxtr_spec.specs.declared.Prefixes.{Prefixes}
 use Rattle.lxtr_spec.specs.declared.Probe.{Probe}
-use Rattle.lxtr_laws.specs.Refusing.{none-first}
+use Rattle.lxtr_laws.specs.Refusing.{none-refused, none-first}
+use Rattle.lxtr_laws.specs.Ranges.{tests}
 use Rattle.lxtr_laws.specs.Stepping.{found-is, found-none}
 use Rattle.lxtr_laws.specs.Passed.{Passed, header-passed}
 
@@ -32,6 +33,21 @@ unfolding unlessRefused
 stands zero answer other h = absurd (h refl)
 stands (suc n) answer other h = refl
 
+pub query-passes : (q : List ℕ) → (queryRefusal q ≡ 0) ↔ (length q % 4 ≡ 0)
+unfolding queryRefusal
+query-passes q = simp (none-refused, tests) (λ p. p .0, λ e. (e, refl))
+
+-- the value of the labels xs, for which the walk answered f
+module _ (b xs : List ℕ) (f : Found) (answer : found f ≡ walkWithin b xs) where
+  pub exact-nowhere : f ≡ Nothing → none ≡ exactValue b xs
+  unfolding exactValue valueReached
+  exact-nowhere h = rw (found-none f (walkWithin b xs) answer h)
+
+  pub exact-reached : (n : ℕ) (v : Found) → f ≡ Is n → found v ≡ valueAt b n → found v ≡ exactValue b xs
+  unfolding exactValue valueReached
+  exact-reached n v h e = rw (found-is f n (walkWithin b xs) answer h, e)
+
+-- r is the refusal that a call answered
 module _ (b q : List ℕ) (r : ℕ) where
   module _ (header : r ≡ headerRefusal b) where
     pub header-stands : (r ≡ 0 → ⊥) → r ≡ searchRefusal b q
@@ -42,9 +58,9 @@ module _ (b q : List ℕ) (r : ℕ) where
     unfolding searchRefusal queryRefusal refuseIf firstRefusal
     query-refused z h = rw (sym header ∙ z, ne-eqb (length q % 4) 0 h)
 
-    pub none-refused-yet : r ≡ 0 → length q % 4 ≡ 0 → 0 ≡ searchRefusal b q
-    unfolding searchRefusal queryRefusal refuseIf firstRefusal
-    none-refused-yet z h = rw (sym header ∙ z, eq-eqb (length q % 4) 0 h)
+    pub search-allowed : r ≡ 0 → length q % 4 ≡ 0 → 0 ≡ searchRefusal b q
+    unfolding searchRefusal
+    search-allowed z h = sym (none-first (headerRefusal b) (queryRefusal q) .1 (sym header ∙ z, query-passes q .1 h))
 
   module _ (known : r ≡ searchRefusal b q) where
     pub search-passed : r ≡ 0 → Passed b
@@ -57,9 +73,9 @@ module _ (b q : List ℕ) (r : ℕ) where
       unfolding exactOf
       exact-refused = rw (← known, stands r (exactValue b (labelsOf q)) none h)
 
-      pub prefixes-refused : (row : Prefixes) → row ≡ prefixesAnswer r [] → row ≡ prefixesOf b q
+      pub prefixes-refused : (p : Prefixes) → p ≡ prefixesAnswer r [] → p ≡ prefixesOf b q
       unfolding prefixesOf
-      prefixes-refused row e = rw (← known, stands r (prefixMatches b q) [] h) e
+      prefixes-refused p e = rw (← known, stands r (prefixMatches b q) [] h) e
 
       pub longest-refused : _≡_ {A = LongestAnswer} (record { refusal = r; part = take 0 q }) (longestOf b q)
       unfolding longestOf longestLength
@@ -75,9 +91,9 @@ module _ (b q : List ℕ) (r : ℕ) where
       unfolding exactOf unlessRefused
       exact-passed f e = rw (sym known ∙ z, e)
 
-      pub prefixes-passed : (row : Prefixes) → row ≡ prefixesAnswer 0 (prefixMatches b q) → row ≡ prefixesOf b q
+      pub prefixes-passed : (p : Prefixes) → p ≡ prefixesAnswer 0 (prefixMatches b q) → p ≡ prefixesOf b q
       unfolding prefixesOf unlessRefused
-      prefixes-passed row e = rw (sym known ∙ z) e
+      prefixes-passed p e = rw (sym known ∙ z) e
 
       pub longest-passed : (n : ℕ) → n ≡ lastLength (prefixMatches b q) → _≡_ {A = LongestAnswer} (record { refusal = r; part = take (4 * n) q }) (longestOf b q)
       unfolding longestOf longestLength unlessRefused

@@ -4,10 +4,10 @@ use Prim.Native.Nat.{ℕ, _≤_, _<_}
 use mathlib.Core.Path.{_≡_, sym, ap, _∙_}
 use mathlib.Core.List.{List}
 use mathlib.Core.Option.{Option, some, none}
-use mathlib.Core.Bool.{Bool, true, false, not, _&&_}
+use mathlib.Core.Bool.{Bool, true, false, not}
 use lib.Dec.{ltb, eqb}
 use borrow.Author.Tests.{lt-ltb, le-ltb}
-use Rattle.lxtr_spec.specs.Image.{slotCount, isLeaf, hasLeaf, parent, valueNumber, slotFrom, listWidth, codeOf}
+use Rattle.lxtr_spec.specs.Image.{slotCount, isLeaf, hasLeaf, parent, hasParent, valueNumber, slotFrom, listWidth, codeOf}
 use Rattle.lxtr_spec.specs.Walks.{step, stepBy, leafValue, valueAt, longerAt}
 use Rattle.lxtr_spec.specs.Answers.{found}
 use Rattle.lxtr_spec.specs.declared.Found.{Found}
@@ -24,10 +24,12 @@ found-none f o e h = sym e ∙ ap found h
 
 -- whether slot t exists and has n as parent
 module _ (b : List ℕ) (t n slots : ℕ) (count : slots ≡ slotCount b) where
-  pub parent-outside : slots ≤ t → false ≡ (ltb t (slotCount b) && eqb (parent b t) n)
+  pub parent-outside : slots ≤ t → false ≡ hasParent b t n
+  unfolding hasParent
   parent-outside h = rw (← count, le-ltb t slots h)
 
-  pub parent-inside : (p : ℕ) → t < slots → p ≡ parent b t → eqb p n ≡ (ltb t (slotCount b) && eqb (parent b t) n)
+  pub parent-inside : (p : ℕ) → t < slots → p ≡ parent b t → eqb p n ≡ hasParent b t n
+  unfolding hasParent
   parent-inside p h e = rw (← count, lt-ltb t slots h, e)
 
 -- the step by code c from slot n
@@ -38,18 +40,15 @@ module _ (b : List ℕ) (n c : ℕ) where
     unfolding step
     step-from-leaf h = rw (outcome l _ _ leaf h)
 
-    -- t is the slot that the code joins to n; r is whether it exists and has n as parent
-    module _ (t : ℕ) (r : Bool) (inner : l ≡ false) (at : t ≡ slotFrom b n c) (child : r ≡ (ltb t (slotCount b) && eqb (parent b t) n)) where
-      same-test : r ≡ (not (isLeaf b n) && ltb (slotFrom b n c) (slotCount b) && eqb (parent b (slotFrom b n c)) n)
-      same-test = rw (outcome l _ _ leaf inner, ← at) child
-
+    -- t is the slot that the code joins to n, and r whether it exists and has n as parent
+    module _ (t : ℕ) (r : Bool) (inner : l ≡ false) (at : t ≡ slotFrom b n c) (child : r ≡ hasParent b t n) where
       pub step-to-other : not r ≡ true → none ≡ step b n c
       unfolding step
-      step-to-other h = rw (outcome r _ _ same-test (not-is-true r .0 h))
+      step-to-other h = rw (outcome l _ _ leaf inner, ← at, outcome r _ _ child (not-is-true r .0 h))
 
       pub step-to-child : not r ≡ false → some t ≡ step b n c
       unfolding step
-      step-to-child h = rw (outcome r _ _ same-test (not-is-false r .0 h), at)
+      step-to-child h = rw (outcome l _ _ leaf inner, ← at, outcome r _ _ child (not-is-false r .0 h))
 
   -- f is what the step answered
   pub step-below : (f : Found) (t : ℕ) → found f ≡ step b n c → f ≡ Is t → t < slotCount b
@@ -88,10 +87,10 @@ module _ (b : List ℕ) (n : ℕ) (h : Bool) (flag : h ≡ hasLeaf b n) where
 
 -- whether longer keys exist at slot n, whose HAS_LEAF is h and whose list has width w
 module _ (b : List ℕ) (n : ℕ) (h : Bool) (w : ℕ) (flag : h ≡ hasLeaf b n) (width : w ≡ listWidth b n) where
-  pub longer-ended : h ≡ true → ltb 1 w ≡ longerAt b n
+  pub longer-with-leaf : h ≡ true → ltb 1 w ≡ longerAt b n
   unfolding longerAt
-  longer-ended k = rw (outcome h _ _ flag k, width)
+  longer-with-leaf k = rw (outcome h _ _ flag k, width)
 
-  pub longer-unended : h ≡ false → ltb 0 w ≡ longerAt b n
+  pub longer-without-leaf : h ≡ false → ltb 0 w ≡ longerAt b n
   unfolding longerAt
-  longer-unended k = rw (outcome h _ _ flag k, width)
+  longer-without-leaf k = rw (outcome h _ _ flag k, width)

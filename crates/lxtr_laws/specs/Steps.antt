@@ -7,7 +7,7 @@ use mathlib.Core.List.{List, [], _∷_, _++_}
 use mathlib.Core.Option.{Option, some, none, Option·none-ne-some}
 use mathlib.Core.Bool.{Bool, true, false, cond, false≢true}
 use lib.ListN.{length}
-use Rattle.lxtr_spec.specs.Image.{slotFrom, codeTo, slotCount, isLeaf, hasLeaf, parent, valueNumber, codeOf}
+use Rattle.lxtr_spec.specs.Image.{slotFrom, codeTo, slotCount, isLeaf, hasLeaf, parent, hasParent, valueNumber, codeOf}
 use Rattle.lxtr_spec.specs.Refusals.{ownCode}
 use Rattle.lxtr_spec.specs.Walks.{step, stepBy, walk, leafValue, valueAt, valueReached, valueOf}
 use Rattle.lxtr_laws.specs.Ranges.{tests}
@@ -66,10 +66,10 @@ then-some (some c) f t = (λ e. (c, refl, e), λ p. ap f (some-same (p .1)) ∙ 
 
 module _ (b : List ℕ) where
   pub step-is : (n c t : ℕ) → (step b n c ≡ some t) ↔ Stepped b n c t
-  unfolding step
+  unfolding step hasParent
   step-is n c t = simp (cond-some, tests) (
-    λ (((i, l), u), e). record { inner = i; below = rw e at l; up = rw e at u; at = sym e },
-    λ s. (((s .inner, rw (s .at) at (s .below)), rw (s .at) at (s .up)), sym (s .at)),
+    λ ((i, (l, u)), e). record { inner = i; below = rw e at l; up = rw e at u; at = sym e },
+    λ s. ((s .inner, (rw (s .at) at (s .below), rw (s .at) at (s .up))), sym (s .at)),
   )
 
   pub step-by-is : (n x t : ℕ) → (stepBy b n x ≡ some t) ↔ ((c : ℕ) × (codeOf b x ≡ some c) × Stepped b n c t)

@@ -2,6 +2,7 @@
 -- Where the step by the next label fails, no longer front part of xs reaches a slot.
 use Prim.Native.Nat.{ℕ, _+_, _≤_, _<_}
 use mathlib.Core.Path.{_≡_, refl, sym, ap, _∙_}
+use mathlib.Core.Logic.{_↔_}
 use mathlib.Core.List.{List, [], _∷_, _++_}
 use mathlib.Core.Option.{Option, some, none}
 use mathlib.Core.Bool.{Bool, true, false, cond}
@@ -12,12 +13,11 @@ use lib.Dec.{ltb}
 use lib.Seq.{take-suc, take-take, take-all, take-length}
 use Rattle.lxtr_spec.specs.Image.{slotCount}
 use Rattle.lxtr_spec.specs.Labels.{maxLabels}
-use Rattle.lxtr_spec.specs.Walks.{stepBy, walk, walkWithin, valueAt, valueReached}
-use Rattle.lxtr_spec.specs.Searches.{exactValue}
+use Rattle.lxtr_spec.specs.Walks.{stepBy, walk, walkWithin}
 use Rattle.lxtr_spec.specs.Answers.{found}
 use Rattle.lxtr_spec.specs.declared.Found.{Found}
 use Rattle.lxtr_spec.specs.declared.Found.the-variants.{Is, Nothing}
-use borrow.Author.Tests.{lt-ltb, le-ltb}
+use borrow.Author.Tests.{lt-ltb, le-ltb, ltb-false}
 use Rattle.lxtr_laws.specs.Passed.{Passed}
 use Rattle.lxtr_laws.specs.Keys.{Last, empty, snoc, last}
 use Rattle.lxtr_laws.specs.Stepping.{found-is, found-none}
@@ -77,32 +77,29 @@ walk-below : (b p : List ℕ) → Passed b → Last p → (t : ℕ) → walk b 1
 walk-below b p ok empty t e = omega (arith, walk-empty b t .0 e, ok .whole .sized .slots-from)
 walk-below b p ok (snoc q x l) t e = walk-snoc b q x t .0 e .stepped .below
 
-within-some : (b xs : List ℕ) (t : ℕ) (long : Bool) → cond long none (walk b 1 xs) ≡ some t → walk b 1 xs ≡ some t
-within-some b xs t true e = absurd (none-not-some e)
-within-some b xs t false e = e
-
 -- the walk within the limit
 module _ (b xs : List ℕ) where
+  pub within : length xs ≤ maxLabels → walkWithin b xs ≡ walk b 1 xs
+  unfolding walkWithin
+  within h = rw (le-ltb maxLabels (length xs) h)
+
+  pub within-is : (t : ℕ) → (walkWithin b xs ≡ some t) ↔ ((length xs ≤ maxLabels) × (walk b 1 xs ≡ some t))
+  unfolding walkWithin
+  within-is t = (go (ltb maxLabels (length xs)) refl, λ p. within (p .0) ∙ p .1)
+    where
+      go : (long : Bool) → ltb maxLabels (length xs) ≡ long → cond long none (walk b 1 xs) ≡ some t → (length xs ≤ maxLabels) × (walk b 1 xs ≡ some t)
+      go true l e = absurd (none-not-some e)
+      go false l e = (ltb-false maxLabels (length xs) l, e)
+
   -- m is how many labels there are
   module _ (m : ℕ) (count : m ≡ length xs) where
     pub walk-too-long : maxLabels < m → none ≡ walkWithin b xs
     unfolding walkWithin
     walk-too-long h = rw (← count, lt-ltb maxLabels m h)
 
-    pub walk-short : (f : Found) → m ≤ maxLabels → found f ≡ walk b 1 xs → found f ≡ walkWithin b xs
-    unfolding walkWithin
-    walk-short f h e = rw (← count, le-ltb maxLabels m h) e
+    pub walk-allowed : (f : Found) → m ≤ maxLabels → found f ≡ walk b 1 xs → found f ≡ walkWithin b xs
+    walk-allowed f h e = e ∙ sym (within (omega arith))
 
   -- f is what it answered
-  module _ (f : Found) (answer : found f ≡ walkWithin b xs) where
-    pub within-below : (n : ℕ) → Passed b → f ≡ Is n → n < slotCount b
-    unfolding walkWithin
-    within-below n ok h = walk-below b xs ok (last xs) n (within-some b xs n (ltb maxLabels (length xs)) (found-is f n (walkWithin b xs) answer h))
-
-    pub exact-nowhere : f ≡ Nothing → none ≡ exactValue b xs
-    unfolding exactValue valueReached
-    exact-nowhere h = rw (found-none f (walkWithin b xs) answer h)
-
-    pub exact-reached : (n : ℕ) (v : Found) → f ≡ Is n → found v ≡ valueAt b n → found v ≡ exactValue b xs
-    unfolding exactValue valueReached
-    exact-reached n v h e = rw (found-is f n (walkWithin b xs) answer h, e)
+  pub within-below : (f : Found) (n : ℕ) → found f ≡ walkWithin b xs → Passed b → f ≡ Is n → n < slotCount b
+  within-below f n answer ok h = walk-below b xs ok (last xs) n (within-is n .0 (found-is f n (walkWithin b xs) answer h) .1)

@@ -1,8 +1,9 @@
 // Searches LXTR images: exact match, prefixes, longest match and probe, for any bytes as image and query.
-// They walk every image that passes refusals 1 to 8, whether or not the check would accept it.
-pub mod query; // the labels of a query, and the refusals before a search
-pub mod walk; // one step, the walk, and what is found where it ends
-pub mod matches; // the prefixes of a query that have a value
+// They walk every image that passes refusals 1 to 8, whether or not the check would accept it. First the parts they share,
+// then the four searches.
+mod query; // the labels of a query, and the refusals before a search
+mod walk; // one step, the walk, and what is found where it ends
+mod matches; // the prefixes of a query that have a value
 
 ghost use mathlib.Core.Path.{_≡_};
 ghost use mathlib.Core.Option.{none};
@@ -23,7 +24,7 @@ use lxtr_spec::Found;
 use lxtr_spec::Prefixes;
 use lxtr_spec::Probe;
 
-// The value of the whole query, in an image that passed.
+// The value of all labels of the query, in an image that passed 1 to 8.
 fn exact_value(image: &[u8], query: &[u8]) -> Found
     requires { ⌜ Passed (now image) ⌝ }
     ensures { λ r. ⌜ found r ≡ exactValue (now (image .entry)) (labelsOf (now (query .entry))) ⌝ }
@@ -34,7 +35,7 @@ fn exact_value(image: &[u8], query: &[u8]) -> Found
     value_at(image, n)
 }
 
-// The value number of the key that the query is, or none.
+// Exact: the value number of the query, or none; none beyond MAX_LABELS labels.
 pub fn exact(image: &[u8], query: &[u8]) -> Exact
     ensures { λ r. ⌜ exactMeans r ≡ exactOf (now (image .entry)) (now (query .entry)) ⌝ }
 {
@@ -51,7 +52,7 @@ pub fn exact(image: &[u8], query: &[u8]) -> Exact
     }
 }
 
-// Length and value of each prefix of the query that is a key, shortest first.
+// Prefixes: length and value of each prefix of the query that has a value, shortest first. Only the first MAX_LABELS labels count.
 pub fn prefixes(image: &[u8], query: &[u8]) -> Prefixes
     ensures { λ r. ⌜ r ≡ prefixesOf (now (image .entry)) (now (query .entry)) ⌝ }
 {
@@ -62,20 +63,21 @@ pub fn prefixes(image: &[u8], query: &[u8]) -> Prefixes
     prefix_matches(image, query)
 }
 
-// The longest of these prefixes, as the front part of the lent query; empty if there is none. The refusal goes into `refusal`.
+// Longest: the longest prefix that `prefixes` reports, as the front part of the lent query; empty if none. The refusal is told
+// in `refusal`.
 pub fn longest<'a>(image: &[u8], query: &'a [u8], refusal: &mut u8) -> &'a [u8]
     ensures { λ r. ⌜ record { refusal = now (refusal .exit); part = now r } ≡ longestOf (now (image .entry)) (now (query .entry)) ⌝ }
 {
-    let k = search_refusal(image, query);
-    *refusal = k;
-    if k != 0 {
+    let number = search_refusal(image, query);
+    *refusal = number;
+    if number != 0 {
         return &query[..0];
     }
     let end = 4 * longest_match(image, query) as usize;
     &query[..end]
 }
 
-// The probe where there is nothing to find.
+// Probe's answer to a refused query and where the walk fails: none, no.
 fn nothing_found(refusal: u8) -> Probe
     ensures { λ r. ⌜ probeMeans r ≡ probeAnswer refusal none false ⌝ }
 {
@@ -86,7 +88,7 @@ fn nothing_found(refusal: u8) -> Probe
     }
 }
 
-// The value of the query, or none, and whether longer keys begin with it.
+// Probe: the value number of the query, or none, and whether longer keys exist.
 pub fn probe(image: &[u8], query: &[u8]) -> Probe
     ensures { λ r. ⌜ probeMeans r ≡ probeOf (now (image .entry)) (now (query .entry)) ⌝ }
 {

@@ -7,7 +7,7 @@ ghost use Rattle.lxtr_spec.specs.Labels.{maxLabels, lengthCount, labelsOf};
 ghost use Rattle.lxtr_spec.specs.Searches.{prefixMatches, prefixesAnswer, lastLength};
 ghost use Rattle.lxtr_spec.specs.Answers.{found};
 ghost use Rattle.lxtr_laws.specs.Passed.{Passed};
-ghost use Rattle.lxtr_laws.specs.Rows.{row, withMatch, laterLength};
+ghost use Rattle.lxtr_laws.specs.Kept.{filled, withMatch, laterLength};
 use crate::query::label_at;
 use crate::query::label_count;
 use crate::walk::step_by;
@@ -17,7 +17,7 @@ use lxtr_spec::LENGTH_COUNT;
 use lxtr_spec::MAX_LABELS;
 use lxtr_spec::Prefixes;
 
-// How many labels of a query count: at most 64.
+// How many labels of a query count: at most MAX_LABELS.
 fn counted_labels(query: &[u8]) -> u32
     ensures { λ r. ⌜ r ≡ length (take maxLabels (labelsOf (now (query .entry)))) ⌝ }
 {
@@ -29,6 +29,7 @@ fn counted_labels(query: &[u8]) -> u32
     }
 }
 
+// Prefixes' answer where nothing was found.
 pub fn no_matches(refusal: u8) -> Prefixes
     ensures { λ r. ⌜ r ≡ prefixesAnswer refusal [] ⌝ }
 {
@@ -41,11 +42,15 @@ pub fn no_matches(refusal: u8) -> Prefixes
 }
 
 // Puts a match of length k after the first `count`, if there is a value, and answers how many there are then.
-fn put_match(lengths: &mut [u32], values: &mut [u32], count: u32, k: u32, value: Found) -> u32
+fn put_match(
+    lengths: &mut [u32; LENGTH_COUNT],
+    values: &mut [u32; LENGTH_COUNT],
+    count: u32,
+    k: u32,
+    value: Found,
+) -> u32
     requires { ⌜ count < lengthCount ⌝ }
-    requires { ⌜ length (now lengths) ≡ lengthCount ⌝ }
-    requires { ⌜ length (now values) ≡ lengthCount ⌝ }
-    ensures { λ r. ⌜ row r (now (lengths .exit)) (now (values .exit)) ≡ withMatch (row count (now (lengths .entry)) (now (values .entry))) k (found value) ⌝ }
+    ensures { λ r. ⌜ filled r (now (lengths .exit)) (now (values .exit)) ≡ withMatch (filled count (now (lengths .entry)) (now (values .entry))) k (found value) ⌝ }
 {
     let Found::Is(v) = value else {
         return count;
@@ -55,7 +60,7 @@ fn put_match(lengths: &mut [u32], values: &mut [u32], count: u32, k: u32, value:
     count + 1
 }
 
-// All of them, shortest first.
+// All prefixes that have a value, shortest first.
 pub fn prefix_matches(image: &[u8], query: &[u8]) -> Prefixes
     requires { ⌜ Passed (now image) ⌝ }
     ensures { λ r. ⌜ r ≡ prefixesAnswer 0 (prefixMatches (now (image .entry)) (now (query .entry))) ⌝ }
@@ -93,7 +98,7 @@ fn later_length(before: u32, k: u32, value: Found) -> u32
     }
 }
 
-// The length of the last of them; 0 if there is none.
+// The length of the longest prefix that has a value; 0 if there is none.
 pub fn longest_match(image: &[u8], query: &[u8]) -> u32
     requires { ⌜ Passed (now image) ⌝ }
     ensures { λ r. ⌜ r ≡ lastLength (prefixMatches (now (image .entry)) (now (query .entry))) ⌝ }

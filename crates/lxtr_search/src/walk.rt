@@ -1,10 +1,8 @@
 // The walk over an image that passed refusals 1 to 8: one step, the walk of a query, and what is found where it ends.
 ghost use mathlib.Core.Path.{_≡_};
-ghost use mathlib.Core.Bool.{_&&_};
 ghost use Prim.Native.Nat.{_<_};
-ghost use lib.Dec.{ltb, eqb};
 ghost use Rattle.lxtr_spec.specs.Labels.{labelsOf};
-ghost use Rattle.lxtr_spec.specs.Image.{slotCount, parent};
+ghost use Rattle.lxtr_spec.specs.Image.{slotCount, hasParent};
 ghost use Rattle.lxtr_spec.specs.Walks.{step, stepBy, walk, walkWithin, valueAt, longerAt};
 ghost use Rattle.lxtr_spec.specs.Answers.{found};
 ghost use Rattle.lxtr_laws.specs.Passed.{Passed};
@@ -24,7 +22,7 @@ use lxtr_spec::MAX_LABELS;
 // Whether slot t exists and has n as parent.
 fn has_parent(image: &[u8], t: u32, n: u32) -> bool
     requires { ⌜ Passed (now image) ⌝ }
-    ensures { λ r. ⌜ r ≡ (ltb t (slotCount (now (image .entry))) && eqb (parent (now (image .entry)) t) n) ⌝ }
+    ensures { λ r. ⌜ r ≡ hasParent (now (image .entry)) t n ⌝ }
 {
     if slot_count(image) <= t {
         return false;
@@ -78,7 +76,7 @@ fn walk(image: &[u8], query: &[u8]) -> Found
     Found::Is(n)
 }
 
-// The same; none beyond 64 labels.
+// The slot that the labels of a query reach from slot 1, if they are at most MAX_LABELS.
 pub fn walk_within(image: &[u8], query: &[u8]) -> Found
     requires { ⌜ Passed (now image) ⌝ }
     ensures { λ r. ⌜ found r ≡ walkWithin (now (image .entry)) (labelsOf (now (query .entry))) ⌝ }
@@ -107,7 +105,7 @@ pub fn value_at(image: &[u8], n: u32) -> Found
     Found::Is(value_number(image, t))
 }
 
-// Whether longer keys exist at slot n: it has a child besides the end of its own key.
+// Whether longer keys exist at slot n: the width of its list is above 1 with HAS_LEAF set, above 0 without.
 pub fn longer_at(image: &[u8], n: u32) -> bool
     requires { ⌜ Passed (now image) ⌝ }
     requires { ⌜ n < slotCount (now image) ⌝ }

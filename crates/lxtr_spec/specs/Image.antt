@@ -2,8 +2,8 @@
 use Prim.Native.Nat.{ℕ, zero, suc, _+_, _*_, _-_, _%_, _^_}
 use mathlib.Core.List.{List, [], _∷_}
 use mathlib.Core.Option.{Option, some, none}
-use mathlib.Core.Bool.{Bool, true, false}
-use lib.Dec.{leb, eqb}
+use mathlib.Core.Bool.{Bool, true, false, _&&_}
+use lib.Dec.{leb, ltb, eqb}
 use Rattle.lxtr_spec.specs.Words.{byteAt, le32, be32}
 use Rattle.lxtr_spec.specs.Joining.{slotUnder, codeUnder}
 
@@ -68,6 +68,10 @@ hasLeaf b s = topBit (checkWord b s)
 -- The other 31 bits of check are the parent; of base, the value number of a leaf or the base of another slot.
 unfoldable pub parent : List ℕ → ℕ → ℕ
 parent b s = low31 (checkWord b s)
+
+-- slot t exists and has n as parent
+unfoldable pub hasParent : List ℕ → ℕ → ℕ → Bool
+hasParent b t n = ltb t (slotCount b) && eqb (parent b t) n
 
 unfoldable pub base : List ℕ → ℕ → ℕ
 base b s = low31 (baseWord b s)

@@ -7,7 +7,7 @@ use lib.Dec.{leb, ltb, eqb}
 use Rattle.lxtr_spec.specs.Ranges.{anyBelow, countBelow}
 use Rattle.lxtr_spec.specs.Words.{byteAt}
 use Rattle.lxtr_spec.specs.Labels.{isScalar, lengthCount, minSlots, maxSlots, maxListed}
-use Rattle.lxtr_spec.specs.Image.{headerLength, magic, version, slotCount, childCount, mapLength, imageLength, baseWord, checkWord, isLeaf, hasLeaf, parent, base, codeTo, offset, child, listWidth, mapVersion, labelCount, labelAt}
+use Rattle.lxtr_spec.specs.Image.{headerLength, magic, version, slotCount, childCount, mapLength, imageLength, baseWord, checkWord, isLeaf, hasLeaf, parent, hasParent, base, codeTo, offset, child, listWidth, mapVersion, labelCount, labelAt}
 use Rattle.lxtr_spec.specs.declared.Verdict.{Verdict}
 
 -- refusal k if the fault is there, and otherwise what comes after it; 0 is no refusal
@@ -108,7 +108,7 @@ usedSlotWrong b s =
 
 -- not a leaf, and the slot at its base exists and has it as parent
 unfoldable pub endExists : List ℕ → ℕ → Bool
-endExists b s = not (isLeaf b s) && ltb (base b s) (slotCount b) && eqb (parent b (base b s)) s
+endExists b s = not (isLeaf b s) && hasParent b (base b s) s
 
 unfoldable pub flagWrong : List ℕ → ℕ → Bool
 flagWrong b s = not (Bool·beq (hasLeaf b s) (endExists b s))

@@ -4,13 +4,13 @@ use mathlib.Core.List.{List, [], _∷_}
 use mathlib.Core.Option.{Option, some, none}
 use mathlib.Core.Bool.{Bool, true, false, _&&_, not, cond}
 use lib.ListN.{length}
-use lib.Dec.{ltb, eqb}
+use lib.Dec.{ltb}
 use Rattle.lxtr_spec.specs.Labels.{maxLabels}
-use Rattle.lxtr_spec.specs.Image.{slotCount, isLeaf, hasLeaf, parent, valueNumber, slotFrom, listWidth, codeOf}
+use Rattle.lxtr_spec.specs.Image.{isLeaf, hasLeaf, hasParent, valueNumber, slotFrom, listWidth, codeOf}
 
 -- A step from n by code c exists when n is no leaf, t = base XOR c is below N and t's parent is n.
 unfoldable pub step : List ℕ → ℕ → ℕ → Option ℕ
-step b n c = let t = slotFrom b n c in cond (not (isLeaf b n) && ltb t (slotCount b) && eqb (parent b t) n) (some t) none
+step b n c = let t = slotFrom b n c in cond (not (isLeaf b n) && hasParent b t n) (some t) none
 
 -- A query label that isn't listed stops the walk.
 unfoldable pub stepBy : List ℕ → ℕ → ℕ → Option ℕ

@@ -117,9 +117,11 @@ fn print_number(n: u64) {
 }
 
 fn print_refusal(refusal: u8) {
-    print(b"refused ");
-    print_number(refusal as u64);
-    print(b"\n");
+    if refusal != 0 {
+        print(b"refused ");
+        print_number(refusal as u64);
+        print(b", ");
+    }
 }
 
 fn print_value(value: Found) {
@@ -129,16 +131,18 @@ fn print_value(value: Found) {
     }
 }
 
-fn show_exact(what: &[u8], image: &[u8], query: &[u8]) {
-    print(what);
-    let answer = exact(image, query);
-    if answer.refusal != 0 {
-        print_refusal(answer.refusal);
-        return;
+// The count, and each place that is filled or not zero.
+fn print_places(answer: Prefixes) {
+    print_number(answer.count as u64);
+    let lengths = answer.lengths;
+    let values = answer.values;
+    let mut i: usize = 0;
+    while i < LENGTH_COUNT {
+        if (i < answer.count as usize) | (lengths[i] != 0) | (values[i] != 0) {
+            print_match(lengths[i], values[i]);
+        }
+        i += 1;
     }
-    let value = answer.value;
-    print_value(value);
-    print(b"\n");
 }
 
 fn print_match(length: u32, value: u32) {
@@ -149,50 +153,50 @@ fn print_match(length: u32, value: u32) {
     print(b")");
 }
 
-fn print_matches(answer: Prefixes) {
-    print_number(answer.count as u64);
-    let lengths = answer.lengths;
-    let values = answer.values;
+// Labels below 128 as text.
+fn print_text(labels: &[u8]) {
     let mut i: usize = 0;
-    while i < LENGTH_COUNT {
-        if i < answer.count as usize {
-            print_match(lengths[i], values[i]);
+    while i < labels.len() {
+        if labels[i] != 0 {
+            print(&[labels[i]]);
         }
         i += 1;
     }
+}
+
+fn show_exact(what: &[u8], image: &[u8], query: &[u8]) {
+    print(what);
+    let answer = exact(image, query);
+    let value = answer.value;
+    print_refusal(answer.refusal);
+    print_value(value);
     print(b"\n");
 }
 
 fn show_prefixes(what: &[u8], image: &[u8], query: &[u8]) {
     print(what);
     let answer = prefixes(image, query);
-    if answer.refusal != 0 {
-        print_refusal(answer.refusal);
-        return;
-    }
-    print_matches(answer);
+    print_refusal(answer.refusal);
+    print_places(answer);
+    print(b"\n");
 }
 
 fn show_longest(what: &[u8], image: &[u8], query: &[u8]) {
     print(what);
-    let mut refusal: u8 = 0;
+    let mut refusal: u8 = 99;
     let part = longest(image, query, &mut refusal);
-    if refusal != 0 {
-        print_refusal(refusal);
-        return;
-    }
-    print_number(part.len() as u64 / 4);
-    print(b" labels\n");
+    print_refusal(refusal);
+    print_number(part.len() as u64);
+    print(b" bytes \"");
+    print_text(part);
+    print(b"\"\n");
 }
 
 fn show_probe(what: &[u8], image: &[u8], query: &[u8]) {
     print(what);
     let answer = probe(image, query);
-    if answer.refusal != 0 {
-        print_refusal(answer.refusal);
-        return;
-    }
     let value = answer.value;
+    print_refusal(answer.refusal);
     print_value(value);
     if answer.longer {
         print(b", yes\n");
@@ -246,20 +250,17 @@ fn show_limit(image: &[u8], query: &[u8]) {
     show_prefixes(b"prefixes, 66 labels: ", image, query);
 }
 
-// 1 to 8 come before 13; then no search is made.
+// A query that ends within a label, over P3 and over an image that is cut short: 1 to 8 come before 13.
 fn show_refusals(image: &[u8]) {
     show_exact(b"exact, 3 bytes: ", image, b"\0\0n");
     show_prefixes(b"prefixes, 5 bytes: ", image, b"\0\0\0n\0");
     show_longest(b"longest, 5 bytes: ", image, b"\0\0\0n\0");
     show_probe(b"probe, 3 bytes: ", image, b"\0\0n");
-    show_exact(b"exact, image cut short: ", front(image, 140), b"\0\0n");
-    show_prefixes(
-        b"prefixes, image cut short: ",
-        front(image, 140),
-        b"\0\0\0n",
-    );
-    show_longest(b"longest, image cut short: ", front(image, 23), b"\0\0\0n");
-    show_probe(b"probe, image cut short: ", front(image, 23), b"\0\0n");
+    let short = front(image, 140);
+    show_exact(b"exact, 3 bytes, image cut short: ", short, b"\0\0n");
+    show_prefixes(b"prefixes, 5 bytes, image cut short: ", short, b"\0\0\0n\0");
+    show_longest(b"longest, 5 bytes, image cut short: ", short, b"\0\0\0n\0");
+    show_probe(b"probe, 3 bytes, image cut short: ", short, b"\0\0n");
 }
 
 fn main() {

@@ -8,14 +8,15 @@ use mathlib.Core.List.{List, _++_, List·Memᴰ·not-nil}
 use mathlib.Core.Option.{Option}
 use lib.ListN.{length, drop}
 use lib.Dec.{ltb}
-use borrow.Author.Tests.{eq-eqb, le-ltb}
+use borrow.Author.Tests.{le-ltb}
 use Rattle.lxtr_spec.specs.Labels.{lengthCount, labelsOf, Pair}
 use Rattle.lxtr_spec.specs.Refusals.{refuseIf, firstRefusal, unlessRefused}
-use Rattle.lxtr_spec.specs.Searches.{queryRefusal, searchRefusal}
+use Rattle.lxtr_spec.specs.Searches.{searchRefusal}
 use Rattle.lxtr_spec.specs.Completions.{pairsAt, pairsBelow, fitting, listingOf, listedIn, roomFor, completionAnswer, written, completionRefusal, completionOf}
 use Rattle.lxtr_spec.specs.Sets.{PairSet, ImageOf}
 use Rattle.lxtr_spec.specs.Meaning.{Ordered, Lists, FittingFront}
 use Rattle.lxtr_laws.specs.Faults.{parts-pass}
+use Rattle.lxtr_laws.specs.Searches.{query-passes}
 use Rattle.lxtr_demands.specs.Laws.Kinds.{KnownImage}
 use Rattle.lxtr_demands.specs.Laws.Images.{image-passes, known-image}
 use Rattle.lxtr_demands.specs.Laws.CodeOrder.{one-listing}
@@ -34,13 +35,9 @@ pairs-listed {b} {d} known xs = go (leads known xs)
 
 module _ {b : List ℕ} {d : PairSet} (image : ImageOf b d) where
   module _ (q : List ℕ) (whole : length q % 4 ≡ 0) where
-    query-passes : queryRefusal q ≡ 0
-    unfolding queryRefusal refuseIf
-    query-passes = rw (eq-eqb (length q % 4) 0 whole)
-
     pub search-passes : searchRefusal b q ≡ 0
     unfolding searchRefusal firstRefusal
-    search-passes = rw (parts-pass b (image-passes image) .0, query-passes)
+    search-passes = rw (parts-pass b (image-passes image) .0) (query-passes q .1 whole)
 
     completion-passes : (room : List ℕ) → 5 ≤ length room → completionRefusal b q room ≡ 0
     unfolding completionRefusal firstRefusal refuseIf

@@ -15,7 +15,7 @@ use Rattle.lxtr_demands.specs.Laws.Kinds.{KnownImage}
 use Rattle.lxtr_demands.specs.Laws.Images.{known-image}
 use Rattle.lxtr_demands.specs.Laws.Queries.{leads, value-led}
 use Rattle.lxtr_demands.specs.Laws.Probes.{probe-longer}
-use Rattle.lxtr_demands.specs.Laws.Searches.{searches}
+use Rattle.lxtr_demands.specs.Laws.Searches.{searches-agree}
 use Rattle.lxtr_demands.specs.Laws.CodeOrder.{one-listing}
 use Rattle.lxtr_demands.specs.Laws.Rooms.{some-front, one-front}
 use Rattle.lxtr_demands.specs.Laws.Completions.{pairs-listed, search-passes, completes}
@@ -31,7 +31,7 @@ demand2 b d q image whole =
     let passes = search-passes image q whole in
     let known = known-image image in
     record {
-      searched = subst (λ e. Searched b e q (labelsOf q)) (exact-set known) (searches b q passes);
+      searched = subst (λ e. Searched b e q (labelsOf q)) (exact-set known) (searches-agree b q passes);
       probe-longer = rw passes (probe-longer known (labelsOf q) (leads known (labelsOf q)));
       one-listing = one-listing b d (labelsOf q);
       some-listing = (pairsBelow b (labelsOf q), pairs-listed known (labelsOf q));

@@ -2,18 +2,17 @@
 -- No prefix has more labels than a key may have, so the searches' limit takes nothing away.
 use Prim.Native.Nat.{ℕ, _≤_}
 use native.Mathlib.Omega.{arith}
-use mathlib.Core.Path.{_≡_, sym, refl, ap}
+use mathlib.Core.Path.{_≡_, sym, refl, ap, _∙_}
 use mathlib.Core.Logic.{_⊎_, inl, inr}
 use mathlib.Core.List.{List, [], _++_}
 use mathlib.Core.Option.{Option, some, none}
-use mathlib.Core.Bool.{Bool, true, false, cond}
 use lib.ListN.{length, length-append}
-use lib.Dec.{ltb}
-use borrow.Author.Tests.{le-ltb}
 use Rattle.lxtr_spec.specs.Labels.{maxLabels}
-use Rattle.lxtr_spec.specs.Walks.{walk, walkWithin, valueReached, valueOf}
+use Rattle.lxtr_spec.specs.Walks.{walkWithin, valueReached, valueOf}
 use Rattle.lxtr_spec.specs.Sets.{PairSet, Prefix}
 use Rattle.lxtr_laws.specs.Keys.{prefix-key, GoesOn}
+use Rattle.lxtr_laws.specs.Steps.{none-not-some}
+use Rattle.lxtr_laws.specs.Walking.{within-is}
 use Rattle.lxtr_demands.specs.Laws.Kinds.{KnownImage}
 use Rattle.lxtr_demands.specs.Laws.Slots.{walk-prefix, walked, set-is}
 
@@ -33,21 +32,13 @@ module _ {b : List ℕ} {d : PairSet} (known : KnownImage b d) (xs : List ℕ) w
       go (inr (r, v, h)) = omega (arith, image .keys .key-length (xs ++ r) v h, length-append xs r)
 
   pub leads : Leads d (image .slot) xs (walkWithin b xs)
-  unfolding walkWithin
-  leads = go (walk b 1 xs) refl
+  leads = go (walkWithin b xs) refl
     where
-      short : Prefix d xs → ltb maxLabels (length xs) ≡ false
-      short f = le-ltb maxLabels (length xs) (prefix-length f)
-
-      still-none : (a : Bool) → walk b 1 xs ≡ none → cond a none (walk b 1 xs) ≡ none
-      still-none true e = refl
-      still-none false e = e
-
-      go : (o : Option ℕ) → walk b 1 xs ≡ o → Leads d (image .slot) xs (walkWithin b xs)
+      go : (o : Option ℕ) → walkWithin b xs ≡ o → Leads d (image .slot) xs (walkWithin b xs)
       go (some t) e =
-          let w = walked known xs t e in
-          rw (short (w .0), e, ← (w .1)) (to-slot (w .0))
-      go none e = rw (still-none (ltb maxLabels (length xs)) e) (nowhere (λ f. let w = walk-prefix image xs f in let z : _≡_ {A = ℕ} 0 1 = cc in omega arith))
+          let w = walked known xs t (within-is b xs t .0 e .1) in
+          rw (e, ← (w .1)) (to-slot (w .0))
+      go none e = rw e (nowhere (λ f. none-not-some (sym e ∙ within-is b xs (image .slot xs) .1 (prefix-length f, walk-prefix image xs f))))
 
   -- the value there is the set's
   pub value-led : {o : Option ℕ} → Leads d (image .slot) xs o → valueReached b o ≡ d xs

@@ -1,22 +1,24 @@
 -- Over all bytes that pass 1 to 8 the searches speak of the pairs that exact finds.
 -- Within the limit the walk is cut nowhere, so the values that prefixes are defined by are exact's.
-use Prim.Native.Nat.{ℕ, _+_, _≤_}
+use Prim.Native.Nat.{ℕ, _+_, _*_, _%_, _≤_}
 use native.Mathlib.Omega.{arith}
 use mathlib.Core.Path.{_≡_, refl, ap, fun-ext}
 use mathlib.Core.List.{List}
 use mathlib.Core.Option.{Option, some, none}
-use mathlib.Core.Bool.{Bool, true, false, cond}
 use lib.ListN.{length, take, length-take}
-use lib.Dec.{ltb}
-use borrow.Author.Tests.{le-ltb, ltb-false}
+use lib.Seq.{length-take-le}
 use Rattle.lxtr_spec.specs.Ranges.{concatFrom}
 use Rattle.lxtr_spec.specs.Labels.{maxLabels, labelsOf}
-use Rattle.lxtr_spec.specs.Refusals.{unlessRefused}
-use Rattle.lxtr_spec.specs.Walks.{walk, walkWithin, valueReached, valueOf}
-use Rattle.lxtr_spec.specs.Searches.{exactValue, exactOf, lengthMatch, matchAt, matches, prefixMatches, prefixesOf, lastLength, longestLength, longestOf, probeAnswer, probeAt, probeOf}
+use Rattle.lxtr_spec.specs.Refusals.{unlessRefused, headerRefusal}
+use Rattle.lxtr_spec.specs.Walks.{walkWithin, valueReached, valueOf}
+use Rattle.lxtr_spec.specs.Searches.{queryRefusal, searchRefusal, exactValue, exactOf, lengthMatch, matchAt, matches, prefixMatches, prefixesOf, lastLength, longestLength, longestOf, probeAnswer, probeAt, probeOf}
 use Rattle.lxtr_spec.specs.Sets.{Has}
 use Rattle.lxtr_spec.specs.Meaning.{PrefixesIn, LongestIn}
+use Rattle.lxtr_laws.specs.Refusing.{none-first}
 use Rattle.lxtr_laws.specs.Steps.{none-not-some}
+use Rattle.lxtr_laws.specs.Queries.{front-labels}
+use Rattle.lxtr_laws.specs.Searches.{query-passes}
+use Rattle.lxtr_laws.specs.Walking.{within, within-is}
 use Rattle.lxtr_demands.specs.Demand2.{SearchesAgree}
 use Rattle.lxtr_demands.specs.Laws.Prefixes.{prefixes-in, one-prefixes, longest-in, one-longest}
 
@@ -32,18 +34,19 @@ probe-value b (some n) = refl
 
 module _ (b : List ℕ) where
   -- exact finds nothing beyond the limit
+  reached-limit : (k : List ℕ) (v : ℕ) (o : Option ℕ) → walkWithin b k ≡ o → valueReached b o ≡ some v → length k ≤ maxLabels
+  unfolding valueReached
+  reached-limit k v none e h = absurd (none-not-some h)
+  reached-limit k v (some t) e h = within-is b k t .0 e .0
+
   exact-limit : (k : List ℕ) (v : ℕ) → Has (exactValue b) k v → length k ≤ maxLabels
-  unfolding exactValue walkWithin valueReached
-  exact-limit k v h = go (ltb maxLabels (length k)) refl h
-    where
-      go : (long : Bool) → ltb maxLabels (length k) ≡ long → valueReached b (cond long none (walk b 1 k)) ≡ some v → length k ≤ maxLabels
-      go true e h = absurd (none-not-some h)
-      go false e h = ltb-false maxLabels (length k) e
+  unfolding exactValue
+  exact-limit k v h = reached-limit k v (walkWithin b k) refl h
 
   -- and within it what the walk gives
   exact-within : (k : List ℕ) → length k ≤ maxLabels → exactValue b k ≡ valueOf b k
-  unfolding exactValue walkWithin valueOf
-  exact-within k h = rw (le-ltb maxLabels (length k) h)
+  unfolding exactValue valueOf
+  exact-within k h = rw (within b k h)
 
   same-matches : (xs : List ℕ) → matches (exactValue b) (take maxLabels xs) ≡ matches (valueOf b) (take maxLabels xs)
   unfolding matches matchAt
@@ -59,13 +62,21 @@ module _ (b : List ℕ) where
     longest-found : LongestIn (exactValue b) (labelsOf q) (lastLength (prefixMatches b q))
     longest-found = longest-in (exactValue b) (labelsOf q) (prefixMatches b q) matches-in
 
-pub searches : SearchesAgree
+    -- a front part of a query that is not refused is not refused either
+    front-passes : (n : ℕ) → 4 * n ≤ length q → searchRefusal b q ≡ 0 → searchRefusal b (take (4 * n) q) ≡ 0
+    unfolding searchRefusal
+    front-passes n h e =
+        let whole : length (take (4 * n) q) % 4 ≡ 0 = omega (arith, length-take-le (4 * n) q h) in
+        none-first (headerRefusal b) (queryRefusal (take (4 * n) q)) .1 (none-first (headerRefusal b) (queryRefusal q) .0 e .0, query-passes (take (4 * n) q) .1 whole)
+
+pub searches-agree : SearchesAgree
 unfolding exactOf exactValue prefixesOf longestLength longestOf probeOf unlessRefused
-searches b q passes =
+searches-agree b q passes =
     let d = exactValue b in
     let xs = labelsOf q in
     record {
       exact = rw passes;
+      exact-front = λ n h. rw (front-passes b q n h passes, front-labels q n h);
       prefixes = λ ms p. rw (passes, one-prefixes d xs (prefixMatches b q) ms (matches-in b q) p);
       one-prefixes = one-prefixes d xs;
       some-prefixes = (prefixMatches b q, matches-in b q);

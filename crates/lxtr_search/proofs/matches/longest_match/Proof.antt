@@ -1,5 +1,5 @@
 -- Invariant: n is the slot that the first i labels reach, and `longest` the last length with a value up to i.
--- Each turn is one of the laws of `Matches` and `Rows`; where the walk stops or ends, this is the last of all.
+-- Each turn is one of the laws of `Matches` and `Kept`; where the walk stops or ends, this is the last of all.
 use borrow.Author.Needs.{needs}
 use Prim.Native.Nat.{_-_}
 use mathlib.Core.Path.{_≡_}
@@ -7,7 +7,7 @@ use lib.ListN.{length}
 use Rattle.lxtr_spec.specs.Searches.{lastLength}
 use Rattle.lxtr_laws.specs.Walking.{Walked, walked-start}
 use Rattle.lxtr_laws.specs.Matches.{counted, matchesTo, counted-place, counted-next, counted-below, kept-stop, kept-end}
-use Rattle.lxtr_laws.specs.Rows.{last-start, last-next}
+use Rattle.lxtr_laws.specs.Kept.{last-start, last-next}
 use Rattle.lxtr_search.proofs.matches.longest_match.Statement.{statement}
 use Rattle.lxtr_search.proofs.matches.longest_match.Tie as tie
 

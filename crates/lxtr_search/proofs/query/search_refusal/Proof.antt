@@ -1,6 +1,6 @@
 -- A refusal of the header stands; otherwise 13 or none.
 use borrow.Author.Needs.{needs}
-use Rattle.lxtr_laws.specs.Searches.{header-stands, query-refused, none-refused-yet}
+use Rattle.lxtr_laws.specs.Searches.{header-stands, query-refused, search-allowed}
 use Rattle.lxtr_search.proofs.query.search_refusal.Statement.{statement}
 use Rattle.lxtr_search.proofs.query.search_refusal.Tie as tie
 
@@ -11,4 +11,4 @@ search-refusal-spec =
     (λ c κs. search needs)
     (λ c. search header-stands)
     (λ c. search query-refused)
-    (λ c. search none-refused-yet))
+    (λ c. search search-allowed))

@@ -1,6 +1,6 @@
 -- The width of the list is compared with 1 or 0, as HAS_LEAF says.
 use borrow.Author.Needs.{needs}
-use Rattle.lxtr_laws.specs.Stepping.{longer-ended, longer-unended}
+use Rattle.lxtr_laws.specs.Stepping.{longer-with-leaf, longer-without-leaf}
 use Rattle.lxtr_search.proofs.walk.longer_at.Statement.{statement}
 use Rattle.lxtr_search.proofs.walk.longer_at.Tie as tie
 
@@ -10,5 +10,5 @@ longer-at-spec =
     (tie.spec
     (λ c κs. search needs)
     (λ c κs. search needs)
-    (λ c. search longer-ended)
-    (λ c. search longer-unended))
+    (λ c. search longer-with-leaf)
+    (λ c. search longer-without-leaf))

@@ -1,7 +1,7 @@
 -- None beyond the limit, and otherwise the walk.
 use borrow.Author.Needs.{needs}
 use Rattle.lxtr_spec.specs.Labels.{maxLabels}
-use Rattle.lxtr_laws.specs.Walking.{walk-too-long, walk-short}
+use Rattle.lxtr_laws.specs.Walking.{walk-too-long, walk-allowed}
 use Rattle.lxtr_search.proofs.walk.walk_within.Statement.{statement}
 use Rattle.lxtr_search.proofs.walk.walk_within.Tie as tie
 
@@ -13,4 +13,4 @@ walk-within-spec =
     (λ c κs. search needs)
     (λ c. search walk-too-long)
     (λ c κs. search needs)
-    (λ c. search walk-short))
+    (λ c. search walk-allowed))

@@ -2,18 +2,18 @@
 use borrow.Author.Needs.{needs}
 use Prim.Native.Nat.{_≤_, _-_}
 use Rattle.lxtr_spec.specs.Labels.{maxLabels, lengthCount}
-use Rattle.search_examples.proofs.print_matches.Statement.{statement}
-use Rattle.search_examples.proofs.print_matches.Tie as tie
+use Rattle.search_examples.proofs.print_places.Statement.{statement}
+use Rattle.search_examples.proofs.print_places.Tie as tie
 
 abbrev Inv-loop : tie.InvT-loop
-Inv-loop answer lengths values i₀ t5 i = i ≤ lengthCount
+Inv-loop answer lengths values i₀ i = i ≤ lengthCount
 
 abbrev μ-loop : tie.MeasureT-loop
-μ-loop answer lengths values i₀ t5 i = lengthCount - i
+μ-loop answer lengths values i₀ i = lengthCount - i
 
-pub print-matches-spec : {M : Type 1} → statement M
+pub print-places-spec : {M : Type 1} → statement M
 unfolding maxLabels
-print-matches-spec =
+print-places-spec =
     tie.close
     (tie.spec
     Inv-loop
@@ -26,10 +26,12 @@ print-matches-spec =
     (λ c. search needs)
     (λ c. search needs)
     (λ c. search needs)
-    (λ c κs. search needs)
     (λ c. search needs)
     (λ c. search needs)
     (λ c. search needs)
     (λ c. search needs)
     (λ c κs. search needs)
+    (λ c. search needs)
+    (λ c. search needs)
+    (λ c. search needs)
     (λ c. search needs))

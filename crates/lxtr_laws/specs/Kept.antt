@@ -1,4 +1,4 @@
--- What a loop keeps of the matches that it meets: the row that Prefixes answers, or the last length.
+-- What a loop keeps of the matches that it meets: the places that prefixes answers, or the last length.
 -- One more match changes either as it changes the list of matches.
 use Prim.Native.Nat.{ℕ, zero, suc, _+_, _*_, _-_, _≤_, _<_}
 use mathlib.Core.Path.{_≡_, refl, sym, ap, _∙_}
@@ -21,14 +21,14 @@ use Rattle.lxtr_laws.specs.Queries.{label-count}
 use Rattle.lxtr_laws.specs.Walking.{Walked}
 use Rattle.lxtr_laws.specs.Matches.{counted, matchesTo, match-count, matches-start, matches-next}
 
--- the row of so many matches
-abbrev pub row : ℕ → List ℕ → List ℕ → Prefixes
-row n ks vs = record { refusal = 0; count = n; lengths = ks; values = vs }
+-- the first n places are filled
+abbrev pub filled : ℕ → List ℕ → List ℕ → Prefixes
+filled n ks vs = record { refusal = 0; count = n; lengths = ks; values = vs }
 
--- the row with a match of length k more, if there is a value
+-- and with a match of length k one more, if there is a value
 abbrev pub withMatch : Prefixes → ℕ → Option ℕ → Prefixes
-withMatch row k none = row
-withMatch row k (some v) = record { refusal = row .refusal; count = row .count + 1; lengths = set (row .lengths) (row .count) k; values = set (row .values) (row .count) v }
+withMatch p k none = p
+withMatch p k (some v) = record { refusal = p .refusal; count = p .count + 1; lengths = set (p .lengths) (p .count) k; values = set (p .values) (p .count) v }
 
 -- length k if it has a value, otherwise the one before
 abbrev pub laterLength : ℕ → ℕ → Option ℕ → ℕ
@@ -44,10 +44,10 @@ cell f ms m h =
     ∙ padded-set (map f ms) (f m) (omega (arith, length-map ms f))
     ∙ ap (λ (xs : List ℕ). padded xs) (sym (map-append f ms (m ∷ [])))
 
-row-more : (r k : ℕ) (o : Option ℕ) (ms : List (ℕ × ℕ)) → length ms < lengthCount → withMatch (prefixesAnswer r ms) k o ≡ prefixesAnswer r (ms ++ lengthMatch k o)
+filled-more : (r k : ℕ) (o : Option ℕ) (ms : List (ℕ × ℕ)) → length ms < lengthCount → withMatch (prefixesAnswer r ms) k o ≡ prefixesAnswer r (ms ++ lengthMatch k o)
 unfolding prefixesAnswer lengthMatch
-row-more r k none ms h = rw append-nil
-row-more r k (some v) ms h =
+filled-more r k none ms h = rw append-nil
+filled-more r k (some v) ms h =
     λ i. record { refusal = r; count = sym (length-append ms ((k, v) ∷ [])) i; lengths = cell matchLength ms (k, v) h i; values = cell matchValue ms (k, v) h i }
 
 last-more : (ms : List (ℕ × ℕ)) (k : ℕ) (o : Option ℕ) → lastLength (ms ++ lengthMatch k o) ≡ laterLength (lastLength ms) k o
@@ -81,21 +81,21 @@ module _ (b q : List ℕ) where
   longest-part n e = sym (length-take-le (4 * n) q (rw e longest-within))
 
   -- the first slot's match
-  pub row-start : (first row : Prefixes) (f : Found) → Walked b (counted q) 0 1 → first ≡ prefixesAnswer 0 [] → found f ≡ valueAt b 1 → row ≡ withMatch first 0 (found f)
-      → row ≡ prefixesAnswer 0 (matchesTo b q 0)
-  row-start first row f w e g r = rw (r, g, e, row-more 0 0 (valueAt b 1) [] (omega arith), matches-start b q w)
+  pub filled-start : (empty first : Prefixes) (f : Found) → Walked b (counted q) 0 1 → empty ≡ prefixesAnswer 0 [] → found f ≡ valueAt b 1 → first ≡ withMatch empty 0 (found f)
+      → first ≡ prefixesAnswer 0 (matchesTo b q 0)
+  filled-start empty first f w e g r = rw (r, g, e, filled-more 0 0 (valueAt b 1) [] (omega arith), matches-start b q w)
 
   -- of a loop's turn
   module _ (i t : ℕ) (f : Found) (w : Walked b (counted q) (i + 1) t) (value : found f ≡ valueAt b t) where
-    pub row-next : (before next : Prefixes) → before ≡ prefixesAnswer 0 (matchesTo b q i) → next ≡ withMatch before (i + 1) (found f) → next ≡ prefixesAnswer 0 (matchesTo b q (i + 1))
-    row-next before next e g = rw (g, e, value, row-more 0 (i + 1) (valueAt b t) (matchesTo b q i) (omega (arith, match-count b q i, w .so-far, length-take maxLabels (labelsOf q))), matches-next b q i t w)
+    pub filled-next : (before next : Prefixes) → before ≡ prefixesAnswer 0 (matchesTo b q i) → next ≡ withMatch before (i + 1) (found f) → next ≡ prefixesAnswer 0 (matchesTo b q (i + 1))
+    filled-next before next e g = rw (g, e, value, filled-more 0 (i + 1) (valueAt b t) (matchesTo b q i) (omega (arith, match-count b q i, w .so-far, length-take maxLabels (labelsOf q))), matches-next b q i t w)
 
     pub last-next : (longest next : ℕ) → longest ≡ lastLength (matchesTo b q i) → next ≡ laterLength longest (i + 1) (found f) → next ≡ lastLength (matchesTo b q (i + 1))
     last-next longest next e g = rw (g, e, value, matches-next b q i t w, last-more)
 
-  pub row-room : (n : ℕ) (ks vs : List ℕ) (m i : ℕ) → row n ks vs ≡ prefixesAnswer 0 (matchesTo b q i) → m ≡ length (counted q) → i < m → n < lengthCount
+  pub filled-room : (n : ℕ) (ks vs : List ℕ) (m i : ℕ) → filled n ks vs ≡ prefixesAnswer 0 (matchesTo b q i) → m ≡ length (counted q) → i < m → n < lengthCount
   unfolding prefixesAnswer
-  row-room n ks vs m i e c h = omega (arith, ap (λ (r : Prefixes). r .count) e, match-count b q i, length-take maxLabels (labelsOf q))
+  filled-room n ks vs m i e c h = omega (arith, ap (λ (p : Prefixes). p .count) e, match-count b q i, length-take maxLabels (labelsOf q))
 
   pub last-start : 0 ≡ lastLength (matchesTo b q 0)
   last-start = omega (arith, last-within (valueOf b) (counted q) 1)
