@@ -69,15 +69,15 @@ hasLeaf b s = topBit (checkWord b s)
 unfoldable pub parent : List ℕ → ℕ → ℕ
 parent b s = low31 (checkWord b s)
 
--- slot t exists and has n as parent
-unfoldable pub hasParent : List ℕ → ℕ → ℕ → Bool
-hasParent b t n = ltb t (slotCount b) && eqb (parent b t) n
-
 unfoldable pub base : List ℕ → ℕ → ℕ
 base b s = low31 (baseWord b s)
 
 unfoldable pub valueNumber : List ℕ → ℕ → ℕ
 valueNumber b s = low31 (baseWord b s)
+
+-- slot t exists and has n as parent
+unfoldable pub hasParent : List ℕ → ℕ → ℕ → Bool
+hasParent b t n = ltb t (slotCount b) && eqb (parent b t) n
 
 -- the slot that code c reaches from slot n, and the code by which slot n reaches slot s: the joining rule over the base of slot n
 unfoldable pub slotFrom : List ℕ → ℕ → ℕ → ℕ
