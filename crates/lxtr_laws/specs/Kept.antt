@@ -21,11 +21,11 @@ use Rattle.lxtr_laws.specs.Queries.{label-count}
 use Rattle.lxtr_laws.specs.Walking.{Walked}
 use Rattle.lxtr_laws.specs.Matches.{counted, matchesTo, match-count, matches-start, matches-next}
 
--- the first n places are filled
+-- the answer of prefixes whose first n places are filled
 abbrev pub filled : ℕ → List ℕ → List ℕ → Prefixes
 filled n ks vs = record { refusal = 0; count = n; lengths = ks; values = vs }
 
--- and with a match of length k one more, if there is a value
+-- the answer p with a match of length k in the next place, if there is a value
 abbrev pub withMatch : Prefixes → ℕ → Option ℕ → Prefixes
 withMatch p k none = p
 withMatch p k (some v) = record { refusal = p .refusal; count = p .count + 1; lengths = set (p .lengths) (p .count) k; values = set (p .values) (p .count) v }

@@ -27,7 +27,7 @@ counted q = take maxLabels (labelsOf q)
 abbrev pub matchesTo : List ℕ → List ℕ → ℕ → List (ℕ × ℕ)
 matchesTo b q i = concatFrom (i + 1) 0 (matchAt (valueOf b) (counted q))
 
--- how many these are; m is the number of all labels
+-- how many labels count; m is the number of all labels
 module _ (q : List ℕ) (m : ℕ) (count : m ≡ length (labelsOf q)) where
   pub counted-all : m < maxLabels → m ≡ length (counted q)
   counted-all h = omega (arith, length-take maxLabels (labelsOf q))

@@ -77,7 +77,7 @@ pub fn longest<'a>(image: &[u8], query: &'a [u8], refusal: &mut u8) -> &'a [u8]
     &query[..end]
 }
 
-// Probe's answer to a refused query and where the walk fails: none, no.
+// Probe's answer after a refusal and where the walk fails: none, no.
 fn nothing_found(refusal: u8) -> Probe
     ensures { λ r. ⌜ probeMeans r ≡ probeAnswer refusal none false ⌝ }
 {

@@ -29,7 +29,7 @@ fn counted_labels(query: &[u8]) -> u32
     }
 }
 
-// Prefixes' answer where nothing was found.
+// Prefixes' answer after a refusal: no match, every place zero.
 pub fn no_matches(refusal: u8) -> Prefixes
     ensures { λ r. ⌜ r ≡ prefixesAnswer refusal [] ⌝ }
 {

@@ -1,4 +1,4 @@
--- Over all bytes that pass 1 to 8 the searches speak of the pairs that exact finds.
+-- Where 1 to 8 and 13 refuse nothing the searches speak of the pairs that exact finds.
 -- Within the limit the walk is cut nowhere, so the values that prefixes are defined by are exact's.
 use Prim.Native.Nat.{ℕ, _+_, _*_, _%_, _≤_}
 use native.Mathlib.Omega.{arith}
