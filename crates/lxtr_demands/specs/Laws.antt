@@ -1,8 +1,7 @@
 -- The proofs of the demands, one idea a file.
--- Codes, counts, and the places of children lists.
+-- Codes and counts.
 pub mod Codes
 pub mod Counting
-pub mod Places
 -- Bytes that the check accepts are an image.
 pub mod Lists
 pub mod Kinds

@@ -1,9 +1,10 @@
 // The two words of a slot: base under IS_LEAF, check under HAS_LEAF.
 ghost use mathlib.Core.Path.{_≡_};
 ghost use Prim.Native.Nat.{_<_};
-ghost use Rattle.lxtr_spec.specs.Image.{slotCount, baseWord, checkWord, isLeaf, hasLeaf, parent, base, valueNumber};
+ghost use Rattle.lxtr_spec.specs.Image.{slotCount, baseWord, checkWord, isLeaf, hasLeaf, parent, hasParent, base, valueNumber};
 ghost use Rattle.lxtr_laws.specs.Passed.{Whole};
 use crate::sections::HEADER_LENGTH;
+use crate::sections::slot_count;
 use crate::words::le32_at;
 
 const TOP_BIT: u32 = 0x8000_0000;
@@ -46,6 +47,17 @@ pub fn parent_of(image: &[u8], s: u32) -> u32
     ensures { λ r. ⌜ r ≡ parent (now (image .entry)) s ⌝ }
 {
     check_word(image, s) % TOP_BIT
+}
+
+// Whether slot t exists and has n as parent.
+pub fn has_parent(image: &[u8], t: u32, n: u32) -> bool
+    requires { ⌜ Whole (now image) ⌝ }
+    ensures { λ r. ⌜ r ≡ hasParent (now (image .entry)) t n ⌝ }
+{
+    if slot_count(image) <= t {
+        return false;
+    }
+    parent_of(image, t) == n
 }
 
 // The base of a slot that is no leaf.

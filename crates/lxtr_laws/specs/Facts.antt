@@ -16,6 +16,24 @@ pub record ZeroWords (b : List ℕ) (s : ℕ) : Type 0 where
   pub base-word : baseWord b s ≡ 0
   pub check-word : checkWord b s ≡ 0
 
+-- an unused slot has no parent, no base, and no flag set
+module _ {b : List ℕ} {s : ℕ} (z : ZeroWords b s) where
+  pub unused-parent : parent b s ≡ 0
+  unfolding parent
+  unused-parent = rw (z .check-word)
+
+  pub unused-base : base b s ≡ 0
+  unfolding base
+  unused-base = rw (z .base-word)
+
+  pub unused-leaf : isLeaf b s ≡ false
+  unfolding isLeaf
+  unused-leaf = rw (z .base-word)
+
+  pub unused-flag : hasLeaf b s ≡ false
+  unfolding hasLeaf
+  unused-flag = rw (z .check-word)
+
 -- a used slot from 2 up; a used slot
 abbrev pub UsedFrom2 : List ℕ → ℕ → Type 0
 UsedFrom2 b s = (2 ≤ s) × (parent b s ≢ 0)

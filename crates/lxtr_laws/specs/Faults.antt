@@ -1,5 +1,5 @@
 -- The check refuses nothing exactly when the facts hold: fault by fault, each by the laws of its tests.
--- This is the only file of the proof that opens the faults.
+-- This is the only file of the proof of the demands that opens the faults.
 use Prim.Native.Nat.{ℕ, zero, suc, _+_, _-_, _≤_, _<_}
 use native.Mathlib.Nat.{le-refl}
 use native.Mathlib.Omega.{arith}
@@ -9,6 +9,7 @@ use mathlib.Core.List.{List}
 use mathlib.Core.Bool.{true, false, _||_, true≢false}
 use lib.ListN.{length}
 use lib.Dec.{eqb}
+use Rattle.lxtr_spec.specs.Ranges.{anyBelow}
 use Rattle.lxtr_spec.specs.Words.{byteAt}
 use Rattle.lxtr_spec.specs.Labels.{isScalar}
 use Rattle.lxtr_spec.specs.Image.{headerLength, magic, slotCount, childCount, mapLength, isLeaf, parent, hasParent, base, offset, labelCount, labelAt}
@@ -112,7 +113,15 @@ module _ (b : List ℕ) where
     λ r. ((((r .zero, r .root), λ h. r .unused (h .0) (h .1)), r .used), r .flag),
   )
 
+  pub slots-right : (slotsWrong b ≡ false) ↔ ((s : ℕ) → s < slotCount b → SlotRight b s)
+  unfolding slotsWrong
+  slots-right = simp (slot-right, tests) (λ h. h, λ h. h)
+
   -- 11
+  pub offsets-right : (anyBelow (slotCount b) (offsetFalls b) ≡ false) ↔ ((p : ℕ) → p < slotCount b → offset b p ≤ offset b (p + 1))
+  unfolding offsetFalls
+  offsets-right = simp tests (λ h. h, λ h. h)
+
   entry-right : (p j : ℕ) → ((entryWrong b p j || codeNotAbove b p j) ≡ false) ↔ EntryRight b p j
   unfolding entryWrong codeNotAbove
   entry-right p j = simp (used-is, tests) (
@@ -131,8 +140,8 @@ module _ (b : List ℕ) where
   )
 
   lists-right : (listsWrong b ≡ false) ↔ ListsRight b
-  unfolding listsWrong offsetFalls childless rootWrong
-  lists-right = simp (used-from-2, entries-right, tests) (
+  unfolding listsWrong childless rootWrong
+  lists-right = simp (used-from-2, offsets-right, entries-right, tests) (
     λ ((((rising, count), entry), parents), root). record { rising = rising; count = count; entry = λ q j h. entry q h j; parents = λ s h u e. parents s h (u, e); root = root },
     λ r. ((((r .rising, r .count), λ q h j. r .entry q j h), λ s h u. r .parents s h (u .0) (u .1)), r .root),
   )
@@ -156,8 +165,8 @@ module _ (b : List ℕ) where
 
   -- 1 to 12
   pub accepted : (imageRefusal b ≡ 0) ↔ Accepted b
-  unfolding imageRefusal headerRefusal tooShort magicDiffers byteDiffers versionWrong sizesWrong lengthWrong mapWrong offsetEndsWrong bodyRefusal slotsWrong someUnreachable unreachable
-  accepted = simp (none-first, none-refused, reserved-right, labels-right, slot-right, lists-right, used-from-2, reaches-by, tests) (
+  unfolding imageRefusal headerRefusal tooShort magicDiffers byteDiffers versionWrong sizesWrong lengthWrong mapWrong offsetEndsWrong bodyRefusal someUnreachable unreachable
+  accepted = simp (none-first, none-refused, reserved-right, labels-right, slots-right, lists-right, used-from-2, reaches-by, tests) (
     λ ((short, (magic, (version, (reserved, (sizes, (size, (map, (ends, _)))))))), (labels, (slots, (lists, (reach, _))))). record {
       framed = record {
         magic-bytes = magic;

@@ -17,7 +17,7 @@ pub record-length : (p : Pair) → length (recordOf p) ≡ 5 + 4 * length (p .0)
 unfolding recordOf beBytes
 record-length p = omega (arith, length-append (beWords (p .0)) (beBytes (p .1)), words-length (p .0))
 
-records-length : (ps : List Pair) → 5 + length (recordsOf ps) ≡ roomFor ps
+pub records-length : (ps : List Pair) → 5 + length (recordsOf ps) ≡ roomFor ps
 unfolding recordsOf roomFor
 records-length [] = refl
 records-length (p ∷ ps) = omega (arith, length-append (recordOf p) (recordsOf ps), record-length p, records-length ps)

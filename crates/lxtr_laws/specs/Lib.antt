@@ -1,5 +1,5 @@
 -- Facts about the definitions of `lxtr_spec`, each stated once. Of these a reader of contracts meets the three records of Passed,
--- and in private functions of `lxtr_search` the definitions that open Kept.
+-- and in private functions of `lxtr_complete` Accepted of Facts.
 pub mod Tests
 pub mod Ranges
 pub mod Refusing
@@ -12,15 +12,11 @@ pub mod Facts
 pub mod Keys
 pub mod Steps
 pub mod Faults
--- What the code computes, turn by turn and test by test: the code of a label, a step, the walk, matches, the searches.
-pub mod Codes
+pub mod Places
+pub mod Entries
+-- What the code computes, turn by turn and test by test, as far as several crates need it: a step, the walk of a query, what the
+-- searches answer.
 pub mod Stepping
 pub mod Queries
 pub mod Walking
-pub mod Matches
-pub mod Kept
 pub mod Searches
--- Tables of examples.
-pub mod ExampleRows
-pub mod Examples
-pub mod Readings

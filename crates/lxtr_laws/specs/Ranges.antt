@@ -1,5 +1,5 @@
 -- Tests of all numbers below a bound: what the outcome says of each number. And what a range gives, taken apart at its last number.
-use Prim.Native.Nat.{ℕ, zero, suc, _+_, _≤_, _<_}
+use Prim.Native.Nat.{ℕ, zero, suc, _+_, _-_, _≤_, _<_}
 use mathlib.Core.Path.{_≡_, refl, sym, ap, _∙_}
 use mathlib.Core.Logic.{_↔_, _⊎_, inl, inr, ⊎-elim}
 use mathlib.Core.Bool.{Bool, true, false, _||_, false≢true}
@@ -10,6 +10,10 @@ use native.Mathlib.Omega.{arith}
 use native.Mathlib.Decide.{decLt}
 use Rattle.lxtr_spec.specs.Ranges.{anyBelow, concatFrom}
 use Rattle.lxtr_laws.specs.Tests.{or-is-false, and-is-true, and-is-false, not-is-false, not-is-true, beq-is-true, ltb-is-true, ltb-is-false, leb-is-true, leb-is-false, eqb-is-true, eqb-is-false}
+
+-- of the numbers from i up to n there is one more than from i + 1
+pub more : (n i : ℕ) → i < n → n - i ≡ suc (n - (i + 1))
+more n i h = omega arith
 
 -- a number below n + 1 is n or below n
 pub below-suc : (i n : ℕ) → i < suc n → (i ≡ n) ⊎ (i < n)

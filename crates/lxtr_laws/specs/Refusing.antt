@@ -6,7 +6,7 @@ use mathlib.Core.Bool.{Bool, true, false, true≢false}
 use native.Mathlib.Omega.{arith}
 use lib.Dec.{ltb}
 use borrow.Author.Tests.{ltb-true}
-use Rattle.lxtr_spec.specs.Refusals.{refuseIf, firstRefusal}
+use Rattle.lxtr_spec.specs.Refusals.{refuseIf, firstRefusal, unlessRefused}
 use Rattle.lxtr_laws.specs.Tests.{outcome}
 
 -- a fault that is there gives its number
@@ -32,3 +32,15 @@ none-first (suc n) later = (λ e. absurd (omega arith), λ p. absurd (omega arit
 
 -- what a `return` in a chain of tests is shown by: faults that are not there, and one that is
 pub ruleset chain = (refused, goes-on, outcome)
+
+-- a refusal stands in front of what comes after it
+pub first-stands : (n later : ℕ) → (n ≡ 0 → ⊥) → firstRefusal n later ≡ n
+unfolding firstRefusal
+first-stands zero later h = absurd (h refl)
+first-stands (suc n) later h = refl
+
+-- and in place of an answer
+pub stands {ℓ} : {A : Type ℓ} (n : ℕ) (answer other : A) → (n ≡ 0 → ⊥) → unlessRefused n answer other ≡ other
+unfolding unlessRefused
+stands zero answer other h = absurd (h refl)
+stands (suc n) answer other h = refl

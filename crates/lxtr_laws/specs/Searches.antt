@@ -1,5 +1,5 @@
 -- The searches as the code makes them: first the refusals, and then an answer that is the definition's.
-use Prim.Native.Nat.{ℕ, zero, suc, _*_, _%_}
+use Prim.Native.Nat.{ℕ, _*_, _%_}
 use mathlib.Core.Path.{_≡_, refl, sym, _∙_}
 use mathlib.Core.Logic.{_↔_}
 use mathlib.Core.List.{List, []}
@@ -16,22 +16,10 @@ use Rattle.lxtr_spec.specs.declared.Found.{Found}
 use Rattle.lxtr_spec.specs.declared.Found.the-variants.{Is, Nothing}
 use Rattle.lxtr_spec.specs.declared.Prefixes.{Prefixes}
 use Rattle.lxtr_spec.specs.declared.Probe.{Probe}
-use Rattle.lxtr_laws.specs.Refusing.{none-refused, none-first}
+use Rattle.lxtr_laws.specs.Refusing.{none-refused, none-first, first-stands, stands}
 use Rattle.lxtr_laws.specs.Ranges.{tests}
 use Rattle.lxtr_laws.specs.Stepping.{found-is, found-none}
 use Rattle.lxtr_laws.specs.Passed.{Passed, header-passed}
-
--- a refusal stands in front of what comes after it
-first-stands : (n later : ℕ) → (n ≡ 0 → ⊥) → firstRefusal n later ≡ n
-unfolding firstRefusal
-first-stands zero later h = absurd (h refl)
-first-stands (suc n) later h = refl
-
--- and in place of an answer
-stands {ℓ} : {A : Type ℓ} (n : ℕ) (answer other : A) → (n ≡ 0 → ⊥) → unlessRefused n answer other ≡ other
-unfolding unlessRefused
-stands zero answer other h = absurd (h refl)
-stands (suc n) answer other h = refl
 
 pub query-passes : (q : List ℕ) → (queryRefusal q ≡ 0) ↔ (length q % 4 ≡ 0)
 unfolding queryRefusal

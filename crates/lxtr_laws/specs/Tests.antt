@@ -3,7 +3,7 @@
 use Prim.Native.Nat.{ℕ, _≤_, _<_}
 use mathlib.Core.Path.{_≡_, refl, sym, _∙_}
 use mathlib.Core.Logic.{_↔_, _≢_, _⊎_, inl, inr}
-use mathlib.Core.Bool.{Bool, true, false, _&&_, _||_, not, Bool·beq, true≢false, false≢true}
+use mathlib.Core.Bool.{Bool, true, false, _&&_, _||_, not, cond, Bool·beq, true≢false, false≢true}
 use lib.Dec.{leb, ltb, eqb}
 use borrow.Author.Tests.{ltb-true, ltb-false, leb-true, leb-false, eqb-true, eqb-false, lt-ltb, le-ltb, le-leb, lt-leb, eq-eqb, ne-eqb}
 
@@ -74,3 +74,8 @@ same-test false false f g = refl
 -- what a call's result says of the test that it computes: for `search`
 pub outcome : (r t a : Bool) → r ≡ t → r ≡ a → t ≡ a
 outcome r t a e h = sym e ∙ h
+
+-- what both branches keep to, the choice keeps to
+pub cond-within : (t : Bool) (m n most : ℕ) → m ≤ most → n ≤ most → cond t m n ≤ most
+cond-within true m n most h l = h
+cond-within false m n most h l = l

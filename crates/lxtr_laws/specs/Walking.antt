@@ -101,5 +101,8 @@ module _ (b xs : List ℕ) where
     walk-allowed f h e = e ∙ sym (within (omega arith))
 
   -- f is what it answered
+  pub within-allowed : (f : Found) (n : ℕ) → found f ≡ walkWithin b xs → f ≡ Is n → length xs ≤ maxLabels
+  within-allowed f n answer h = within-is n .0 (found-is f n (walkWithin b xs) answer h) .0
+
   pub within-below : (f : Found) (n : ℕ) → found f ≡ walkWithin b xs → Passed b → f ≡ Is n → n < slotCount b
   within-below f n answer ok h = walk-below b xs ok (last xs) n (within-is n .0 (found-is f n (walkWithin b xs) answer h) .1)

@@ -1,8 +1,9 @@
 // Searches LXTR images: exact match, prefixes, longest match and probe, for any bytes as image and query.
 // They walk every image that passes refusals 1 to 8, whether or not the check would accept it. First the parts they share,
-// then the four searches.
-mod query; // the labels of a query, and the refusals before a search
-mod walk; // one step, the walk, and what is found where it ends
+// then the four searches, which any caller may use. The functions of `query` and `walk` are for the crates above: most require
+// what answer 0 of `query::search_refusal` leaves known.
+pub mod query; // the labels of a query, and the refusals before a search
+pub mod walk; // one step, the walk, and what is found where it ends
 mod matches; // the prefixes of a query that have a value
 
 ghost use mathlib.Core.Path.{_≡_};

@@ -7,7 +7,7 @@ ghost use Rattle.lxtr_spec.specs.Labels.{maxLabels, lengthCount, labelsOf};
 ghost use Rattle.lxtr_spec.specs.Searches.{prefixMatches, prefixesAnswer, lastLength};
 ghost use Rattle.lxtr_spec.specs.Answers.{found};
 ghost use Rattle.lxtr_laws.specs.Passed.{Passed};
-ghost use Rattle.lxtr_laws.specs.Kept.{filled, withMatch, laterLength};
+ghost use Rattle.lxtr_search.specs.Kept.{filled, withMatch, laterLength};
 use crate::query::label_at;
 use crate::query::label_count;
 use crate::walk::step_by;

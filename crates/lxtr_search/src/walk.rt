@@ -2,7 +2,7 @@
 ghost use mathlib.Core.Path.{_≡_};
 ghost use Prim.Native.Nat.{_<_};
 ghost use Rattle.lxtr_spec.specs.Labels.{labelsOf};
-ghost use Rattle.lxtr_spec.specs.Image.{slotCount, hasParent};
+ghost use Rattle.lxtr_spec.specs.Image.{slotCount};
 ghost use Rattle.lxtr_spec.specs.Walks.{step, stepBy, walk, walkWithin, valueAt, longerAt};
 ghost use Rattle.lxtr_spec.specs.Answers.{found};
 ghost use Rattle.lxtr_laws.specs.Passed.{Passed};
@@ -12,23 +12,11 @@ use lxtr_image::code_map::code_of;
 use lxtr_image::joining::slot_from;
 use lxtr_image::lists::list_width;
 use lxtr_image::nodes::has_leaf;
+use lxtr_image::nodes::has_parent;
 use lxtr_image::nodes::is_leaf;
-use lxtr_image::nodes::parent_of;
 use lxtr_image::nodes::value_number;
-use lxtr_image::sections::slot_count;
 use lxtr_spec::Found;
 use lxtr_spec::MAX_LABELS;
-
-// Whether slot t exists and has n as parent.
-fn has_parent(image: &[u8], t: u32, n: u32) -> bool
-    requires { ⌜ Passed (now image) ⌝ }
-    ensures { λ r. ⌜ r ≡ hasParent (now (image .entry)) t n ⌝ }
-{
-    if slot_count(image) <= t {
-        return false;
-    }
-    parent_of(image, t) == n
-}
 
 // The step from slot n by a code.
 pub fn step(image: &[u8], n: u32, code: u32) -> Found

@@ -13,11 +13,11 @@ use Rattle.lxtr_spec.specs.Image.{slotCount, isLeaf}
 use Rattle.lxtr_spec.specs.Refusals.{isEnd, endCount}
 use Rattle.lxtr_spec.specs.Sets.{PairSet, Has}
 use Rattle.lxtr_spec.specs.Meaning.{CodeBefore, Lists}
-use Rattle.lxtr_laws.specs.Facts.{UsedFrom2}
+use Rattle.lxtr_laws.specs.Facts.{UsedFrom2, unused-parent}
 use Rattle.lxtr_laws.specs.Faults.{end-is}
 use Rattle.lxtr_demands.specs.Laws.Counting.{count-of}
 use Rattle.lxtr_laws.specs.Keys.{prefix-key}
-use Rattle.lxtr_demands.specs.Laws.Kinds.{KindIn, root, inner, leaf, unused, unused-parent, KnownImage}
+use Rattle.lxtr_demands.specs.Laws.Kinds.{KindIn, root, inner, leaf, unused, KnownImage}
 use Rattle.lxtr_demands.specs.Laws.Slots.{prefix-slot}
 use Rattle.lxtr_demands.specs.Laws.Sorted.{Sorted, adjacent-sorted}
 use Rattle.lxtr_demands.specs.Laws.CodeOrder.{code-self, code-trans}

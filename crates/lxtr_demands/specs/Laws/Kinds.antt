@@ -1,10 +1,8 @@
 -- What a slot of an image is: slot 1, a longer prefix's slot, a key's end, or unused.
 -- Document 01 says it by exclusion ("all other slots hold two zero words"); here it is said outright.
 use Prim.Native.Nat.{ℕ, _<_}
-use mathlib.Core.Path.{_≡_}
 use mathlib.Core.List.{List, [], _∷_, _++_}
-use mathlib.Core.Bool.{false}
-use Rattle.lxtr_spec.specs.Image.{slotCount, isLeaf, hasLeaf, parent, base}
+use Rattle.lxtr_spec.specs.Image.{slotCount}
 use Rattle.lxtr_spec.specs.Sets.{PairSet, Has, Prefix, ImageOf}
 use Rattle.lxtr_laws.specs.Facts.{ZeroWords}
 
@@ -17,24 +15,6 @@ pub data Kind (b : List ℕ) (d : PairSet) (slot end : List ℕ → ℕ) : ℕ �
 -- of the slots of an image
 abbrev pub KindIn : {b : List ℕ} {d : PairSet} → ImageOf b d → ℕ → Type 0
 KindIn {b} {d} image = Kind b d (image .slot) (image .end)
-
--- an unused slot has no parent, no base, and no flag set
-module _ {b : List ℕ} {s : ℕ} (z : ZeroWords b s) where
-  pub unused-parent : parent b s ≡ 0
-  unfolding parent
-  unused-parent = rw (z .check-word)
-
-  pub unused-base : base b s ≡ 0
-  unfolding base
-  unused-base = rw (z .base-word)
-
-  pub unused-leaf : isLeaf b s ≡ false
-  unfolding isLeaf
-  unused-leaf = rw (z .base-word)
-
-  pub unused-flag : hasLeaf b s ≡ false
-  unfolding hasLeaf
-  unused-flag = rw (z .check-word)
 
 -- an image of a set, and what each of its slots is
 pub record KnownImage (b : List ℕ) (d : PairSet) : Type 0 where

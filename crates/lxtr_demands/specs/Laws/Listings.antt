@@ -15,7 +15,7 @@ use Rattle.lxtr_spec.specs.Sets.{PairSet, Has, Prefix, InList}
 use Rattle.lxtr_spec.specs.Meaning.{CodeBefore, Lists}
 use Rattle.lxtr_laws.specs.Keys.{snoc-cons}
 use Rattle.lxtr_laws.specs.Lists.{in-list}
-use Rattle.lxtr_demands.specs.Laws.Places.{lists-sorted, code-rises}
+use Rattle.lxtr_laws.specs.Places.{lists-sorted, code-rises}
 use Rattle.lxtr_demands.specs.Laws.Kinds.{KnownImage}
 use Rattle.lxtr_demands.specs.Laws.Slots.{prefix-slot, ChildIn, longer, ended}
 use Rattle.lxtr_demands.specs.Laws.Sorted.{Sorted, sorted-one, sorted-adjacent}

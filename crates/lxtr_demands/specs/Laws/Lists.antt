@@ -1,51 +1,24 @@
 -- Lists that pass rule 11 are the children lists of document 01's image.
 -- What takes a count: every used slot from 2 up is listed, since as many are listed as are used, each once.
-use Prim.Native.Nat.{ℕ, _+_, _-_, _<_}
-use native.Mathlib.Nat.{le-refl}
+use Prim.Native.Nat.{ℕ, _<_}
 use native.Mathlib.Omega.{arith}
 use mathlib.Core.Path.{_≡_, refl, sym, ap, _∙_}
-use mathlib.Core.Logic.{inl, inr}
 use mathlib.Core.List.{List}
 use mathlib.Core.Bool.{Bool, true}
 use lib.Dec.{eqb}
 use borrow.Author.Tests.{eqb-true, eq-eqb}
 use Rattle.lxtr_spec.specs.Ranges.{anyBelow, countBelow}
-use Rattle.lxtr_spec.specs.Image.{slotCount, childCount, parent, offset, child}
+use Rattle.lxtr_spec.specs.Image.{slotCount, childCount, parent, child}
 use Rattle.lxtr_spec.specs.Refusals.{isUsedFrom2, usedCount}
 use Rattle.lxtr_spec.specs.Sets.{ListsFit}
 use Rattle.lxtr_laws.specs.Ranges.{any-true}
-use Rattle.lxtr_laws.specs.Facts.{UsedFrom2, Used, EntryRight, Accepted}
+use Rattle.lxtr_laws.specs.Facts.{UsedFrom2, Accepted}
 use Rattle.lxtr_laws.specs.Faults.{used-from-2}
+use Rattle.lxtr_laws.specs.Entries.{sorted-lists, child-used}
 use Rattle.lxtr_demands.specs.Laws.Counting.{count-of, count-filled}
-use Rattle.lxtr_demands.specs.Laws.Places.{ListsSorted, list-of-place, children-differ}
-
--- an entry has a parent
-entry-used : {b : List ℕ} {p j : ℕ} → EntryRight b p j → UsedFrom2 b (child b j)
-entry-used {b} {p} {j} e = go (e .used)
-  where
-    go : Used b (child b j) → UsedFrom2 b (child b j)
-    go (inl z) = absurd (omega (arith, e .from))
-    go (inr u) = u
+use Rattle.lxtr_laws.specs.Places.{list-of-place, children-differ}
 
 module _ {b : List ℕ} (ok : Accepted b) where
-  no-list-of-zero : offset b 1 ≡ offset b 0
-  no-list-of-zero = omega (arith, ok .lists .rising 0 some-slot, no-entry)
-    where
-      some-slot : 0 < slotCount b
-      some-slot = omega (arith, ok .framed .slots)
-
-      no-entry : ¬ (offset b 0 < offset b 1)
-      no-entry h = let e = ok .lists .entry 0 (offset b 0) some-slot (record { from = le-refl (offset b 0); to = h }) in entry-used e .1 (e .up)
-
-  pub sorted-lists : ListsSorted b
-  sorted-lists = record {
-    members = λ p j f t i. let e = ok .lists .entry p j t i in (e .from, e .to, e .up);
-    ascending = λ p j f t i k. let z : j + 1 - 1 ≡ j = omega arith in rw z at (ok .lists .entry p (j + 1) t k .above (omega (arith, i .from)));
-    none-of-zero = no-list-of-zero;
-    first = ok .first;
-    rising = ok .lists .rising;
-  }
-
   -- whether slot s is listed
   listed : ℕ → Bool
   listed s = anyBelow (childCount b) (λ j. eqb (child b j) s)
@@ -58,36 +31,30 @@ module _ {b : List ℕ} (ok : Accepted b) where
   unfolding listed
   is-listed j h = any-true (childCount b) (λ i. eqb (child b i) (child b j)) .1 (j, h, eq-eqb (child b j) (child b j) refl)
 
-  child-used : (j : ℕ) → j < childCount b → (child b j < slotCount b) × UsedFrom2 b (child b j)
-  child-used j h =
-      let o = list-of-place sorted-lists j (omega (arith, ok .last)) in
-      let e = ok .lists .entry (o .slot) j (o .to) (o .within) in
-      (e .to, entry-used e)
-
   used-listed : (s : ℕ) → s < slotCount b → UsedFrom2 b s → (j : ℕ) × (j < childCount b) × (child b j ≡ s)
   unfolding usedCount
   used-listed s h u = listed-is s (count-filled listed (isUsedFrom2 b) (slotCount b) only (as-many ∙ ok .lists .count) s h (used-from-2 b s .1 u))
     where
       only : (t : ℕ) → t < slotCount b → listed t ≡ true → isUsedFrom2 b t ≡ true
-      only t l e = let r = listed-is t e in rw (r .2) at (used-from-2 b (child b (r .0)) .1 (child-used (r .0) (r .1) .1))
+      only t l e = let r = listed-is t e in rw (r .2) at (used-from-2 b (child b (r .0)) .1 (child-used ok (r .0) (r .1) .1))
 
       as-many : countBelow (slotCount b) listed ≡ childCount b
       as-many = count-of (childCount b) (slotCount b) listed (child b) (record {
-        lands = λ j l. (child-used j l .0, is-listed j l);
-        injective = λ i j l m e. children-differ sorted-lists i j (omega (arith, ok .last)) (omega (arith, ok .last)) e;
+        lands = λ j l. (child-used ok j l .0, is-listed j l);
+        injective = λ i j l m e. children-differ (sorted-lists ok) i j (omega (arith, ok .last)) (omega (arith, ok .last)) e;
         surjective = λ t l e. listed-is t e;
       })
 
   pub lists-fit : ListsFit b
   lists-fit = record {
-    members = sorted-lists .members;
+    members = sorted-lists ok .members;
     whole = λ p s f t g l e.
         let r = used-listed s l (g, λ z. omega arith) in
-        let o = list-of-place sorted-lists (r .0) (omega (arith, r .1, ok .last)) in
-        let same : o .slot ≡ p = sym (sorted-lists .members (o .slot) (r .0) (o .from) (o .to) (o .within) .2) ∙ ap (parent b) (r .2) ∙ e in
+        let o = list-of-place (sorted-lists ok) (r .0) (omega (arith, r .1, ok .last)) in
+        let same : o .slot ≡ p = sym (sorted-lists ok .members (o .slot) (r .0) (o .from) (o .to) (o .within) .2) ∙ ap (parent b) (r .2) ∙ e in
         (r .0, rw same at (o .within), r .2);
-    ascending = sorted-lists .ascending;
-    none-of-zero = no-list-of-zero;
+    ascending = sorted-lists ok .ascending;
+    none-of-zero = sorted-lists ok .none-of-zero;
     first = ok .first;
     last = ok .last;
     rising = ok .lists .rising;

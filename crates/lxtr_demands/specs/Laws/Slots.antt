@@ -9,11 +9,11 @@ use mathlib.Core.Option.{Option, some, none}
 use Rattle.lxtr_spec.specs.Image.{slotCount, parent}
 use Rattle.lxtr_spec.specs.Walks.{walk, valueOf}
 use Rattle.lxtr_spec.specs.Sets.{PairSet, Has, Prefix, Listed, ImageOf}
-use Rattle.lxtr_laws.specs.Facts.{Used}
+use Rattle.lxtr_laws.specs.Facts.{Used, unused-parent}
 use Rattle.lxtr_demands.specs.Laws.Codes.{code-listed, listed-code, listed-same}
 use Rattle.lxtr_laws.specs.Keys.{Last, empty, snoc, last, prefix-root, prefix-key, prefix-part, prefix-on}
 use Rattle.lxtr_laws.specs.Steps.{Stepped, one-code, walk-empty, none-not-some, walk-snoc, exact-is}
-use Rattle.lxtr_demands.specs.Laws.Kinds.{KindIn, root, inner, leaf, unused, unused-parent, KnownImage}
+use Rattle.lxtr_demands.specs.Laws.Kinds.{KindIn, root, inner, leaf, unused, KnownImage}
 
 -- where the slot of a prefix lies
 pub record PrefixSlot (b : List ℕ) (s : ℕ) : Type 0 where

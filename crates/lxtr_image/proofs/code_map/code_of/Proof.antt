@@ -3,7 +3,7 @@ use borrow.Author.Needs.{needs}
 use Prim.Native.Nat.{_≤_, _-_}
 use mathlib.Core.Path.{_≡_}
 use Rattle.lxtr_spec.specs.Image.{labelCount, codeFrom, codeOf}
-use Rattle.lxtr_laws.specs.Codes.{code-start, code-hit, code-miss, code-end}
+use Rattle.lxtr_image.specs.Codes.{code-start, code-hit, code-miss, code-end}
 use Rattle.lxtr_image.proofs.code_map.code_of.Statement.{statement}
 use Rattle.lxtr_image.proofs.code_map.code_of.Tie as tie
 

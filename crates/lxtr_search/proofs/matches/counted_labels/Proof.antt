@@ -1,7 +1,7 @@
 -- The lesser of two numbers.
 use borrow.Author.Needs.{needs}
 use Rattle.lxtr_spec.specs.Labels.{maxLabels}
-use Rattle.lxtr_laws.specs.Matches.{counted-all, counted-most}
+use Rattle.lxtr_search.specs.Matches.{counted-all, counted-most}
 use Rattle.lxtr_search.proofs.matches.counted_labels.Statement.{statement}
 use Rattle.lxtr_search.proofs.matches.counted_labels.Tie as tie
 

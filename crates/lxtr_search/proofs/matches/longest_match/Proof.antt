@@ -6,8 +6,8 @@ use mathlib.Core.Path.{_≡_}
 use lib.ListN.{length}
 use Rattle.lxtr_spec.specs.Searches.{lastLength}
 use Rattle.lxtr_laws.specs.Walking.{Walked, walked-start}
-use Rattle.lxtr_laws.specs.Matches.{counted, matchesTo, counted-place, counted-next, counted-below, kept-stop, kept-end}
-use Rattle.lxtr_laws.specs.Kept.{last-start, last-next}
+use Rattle.lxtr_search.specs.Matches.{counted, matchesTo, counted-place, counted-next, counted-below, kept-stop, kept-end}
+use Rattle.lxtr_search.specs.Kept.{last-start, last-next}
 use Rattle.lxtr_search.proofs.matches.longest_match.Statement.{statement}
 use Rattle.lxtr_search.proofs.matches.longest_match.Tie as tie
 

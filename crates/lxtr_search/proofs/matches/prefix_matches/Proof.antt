@@ -9,8 +9,8 @@ use lib.ListN.{length, replicate}
 use Rattle.lxtr_spec.specs.Labels.{maxLabels, lengthCount}
 use Rattle.lxtr_spec.specs.Searches.{prefixesAnswer}
 use Rattle.lxtr_laws.specs.Walking.{Walked, walked-start}
-use Rattle.lxtr_laws.specs.Matches.{counted, matchesTo, counted-place, counted-next, counted-below, kept-stop, kept-end}
-use Rattle.lxtr_laws.specs.Kept.{filled, filled-start, filled-next, filled-room}
+use Rattle.lxtr_search.specs.Matches.{counted, matchesTo, counted-place, counted-next, counted-below, kept-stop, kept-end}
+use Rattle.lxtr_search.specs.Kept.{filled, filled-start, filled-next, filled-room}
 use Rattle.lxtr_search.proofs.matches.prefix_matches.Statement.{statement}
 use Rattle.lxtr_search.proofs.matches.prefix_matches.Tie as tie
 

@@ -1,7 +1,7 @@
 -- Every place of the children array is in the list of one slot.
 -- Codes rise along a list, so no slot is listed twice.
 use Prim.Native.Nat.{ℕ, zero, suc, _+_, _-_, _≤_, _<_}
-use native.Mathlib.Nat.{le-refl, add-zero}
+use native.Mathlib.Nat.{le-refl}
 use native.Mathlib.Numerals.{add-one}
 use native.Mathlib.Decide.{decLt}
 use native.Mathlib.Omega.{arith}
@@ -10,6 +10,7 @@ use mathlib.Core.Logic.{_≢_}
 use mathlib.Core.List.{List}
 use Rattle.lxtr_spec.specs.Image.{codeTo, slotCount, parent, offset, child}
 use Rattle.lxtr_spec.specs.Sets.{InList, ListsFit}
+use Rattle.lxtr_laws.specs.Lists.{in-children}
 
 -- the lists hold children of their slots, by ascending code
 pub record ListsSorted (b : List ℕ) : Type 0 where
@@ -43,21 +44,9 @@ module _ {b : List ℕ} (sorted-lists : ListsSorted b) where
   pub list-of-place : (j : ℕ) → j < offset b (slotCount b) → PlaceInList b j
   list-of-place j h = place-below (slotCount b) j (le-refl (slotCount b)) h
 
-  -- offsets rise from slot to slot
-  offsets-rise : (p m : ℕ) → p + m ≤ slotCount b → offset b p ≤ offset b (p + m)
-  offsets-rise p zero h = rw (add-zero p) (le-refl (offset b p))
-  offsets-rise p (suc m) h =
-      let e : p + suc m ≡ p + m + 1 = omega arith in
-      let a = offsets-rise p m (omega arith) in
-      let c = sorted-lists .rising (p + m) (omega arith) in
-      rw e (omega arith)
-
-  -- so a place in a list is a place of the array
+  -- a place in a list is a place of the array
   pub in-array : (p j : ℕ) → p < slotCount b → InList b p j → j < offset b (slotCount b)
-  in-array p j h i =
-      let e : p + 1 + (slotCount b - (p + 1)) ≡ slotCount b = omega arith in
-      let a : offset b (p + 1) ≤ offset b (slotCount b) = rw e at (offsets-rise (p + 1) (slotCount b - (p + 1)) (omega arith)) in
-      omega (arith, i .to)
+  in-array = in-children b (sorted-lists .rising)
 
   module _ (p : ℕ) (f : 1 ≤ p) (t : p < slotCount b) where
     codes-rise : (i m : ℕ) → InList b p i → InList b p (i + suc m) → codeTo b p (child b i) < codeTo b p (child b (i + suc m))

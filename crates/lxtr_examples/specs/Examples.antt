@@ -5,7 +5,7 @@ use mathlib.Core.List.{List, [], _∷_}
 use mathlib.Core.Option.{some, none}
 use mathlib.Core.Bool.{true, false}
 use Rattle.lxtr_spec.specs.Samples.{p1, p2, p3, p7, p8-check, p8-slot, p9-labels, p9-longer, p10, p11}
-use Rattle.lxtr_laws.specs.ExampleRows.{Example, image-length, accepted, refused, exact, prefixes, longest, probe, completes, AllHold, _and_, computing}
+use Rattle.lxtr_examples.specs.Rows.{Example, image-length, accepted, refused, exact, prefixes, longest, probe, completes, AllHold, _and_, computing}
 
 unfoldable pub examples : List Example
 examples =

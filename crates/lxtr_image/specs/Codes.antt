@@ -1,17 +1,14 @@
 -- The search for a label's code, as a loop makes it: the code of the label is what the search of the n - i places from i on gives.
 -- Each turn reads the label l at place i.
-use Prim.Native.Nat.{ℕ, suc, _+_, _-_, _≤_, _<_}
+use Prim.Native.Nat.{ℕ, _+_, _-_, _≤_, _<_}
 use mathlib.Core.Path.{_≡_, sym, _∙_}
 use mathlib.Core.List.{List}
 use mathlib.Core.Option.{Option, some, none}
 use native.Mathlib.Nat.{sub-zero}
 use native.Mathlib.Omega.{arith}
 use borrow.Author.Tests.{eq-eqb, ne-eqb}
+use Rattle.lxtr_laws.specs.Ranges.{more}
 use Rattle.lxtr_spec.specs.Image.{labelCount, labelAt, codeFrom, codeOf}
-
--- of the numbers from i up to n there is one more than from i + 1
-pub more : (n i : ℕ) → i < n → n - i ≡ suc (n - (i + 1))
-more n i h = omega arith
 
 no-more : (n i : ℕ) → n ≤ i → n - i ≡ 0
 no-more n i h = omega arith

@@ -1,8 +1,8 @@
 -- A slot that is not there has no parent; of one that is there the parent is compared.
 use borrow.Author.Needs.{needs}
 use Rattle.lxtr_laws.specs.Stepping.{parent-outside, parent-inside}
-use Rattle.lxtr_search.proofs.walk.has_parent.Statement.{statement}
-use Rattle.lxtr_search.proofs.walk.has_parent.Tie as tie
+use Rattle.lxtr_image.proofs.nodes.has_parent.Statement.{statement}
+use Rattle.lxtr_image.proofs.nodes.has_parent.Tie as tie
 
 pub has-parent-spec : {M : Type 1} → statement M
 has-parent-spec =

@@ -15,11 +15,10 @@ use Rattle.lxtr_spec.specs.Searches.{lengthMatch, matchAt, matches, prefixMatch
 use Rattle.lxtr_spec.specs.Answers.{found}
 use Rattle.lxtr_spec.specs.declared.Found.{Found}
 use Rattle.lxtr_spec.specs.declared.Prefixes.{Prefixes}
-use Rattle.lxtr_laws.specs.Codes.{more}
-use Rattle.lxtr_laws.specs.Ranges.{concat-more}
+use Rattle.lxtr_laws.specs.Ranges.{more, concat-more}
 use Rattle.lxtr_laws.specs.Queries.{label-count}
 use Rattle.lxtr_laws.specs.Walking.{Walked}
-use Rattle.lxtr_laws.specs.Matches.{counted, matchesTo, match-count, matches-start, matches-next}
+use Rattle.lxtr_search.specs.Matches.{counted, matchesTo, match-count, matches-start, matches-next}
 
 -- the answer of prefixes whose first n places are filled
 abbrev pub filled : ℕ → List ℕ → List ℕ → Prefixes

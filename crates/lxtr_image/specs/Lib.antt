@@ -1,0 +1,2 @@
+-- What the code computes, turn by turn.
+pub mod Codes
