@@ -7,77 +7,16 @@ use lxtr_search::probe;
 use lxtr_spec::Found;
 use lxtr_spec::LENGTH_COUNT;
 use lxtr_spec::Prefixes;
+use sample_images::front;
+use sample_images::p2;
+use sample_images::p3;
+use sample_images::put_header;
 
-// `LXTR`, version 3, and N, E and M; the rest is zero.
-fn header(slots: u8, children: u8, map: u8) -> [u8; 141] {
-    let mut image = [0u8; 141];
-    image[0] = 0x4C;
-    image[1] = 0x58;
-    image[2] = 0x54;
-    image[3] = 0x52;
-    image[4] = 3;
-    image[8] = slots;
-    image[12] = children;
-    image[16] = map;
-    image
-}
-
-// The slots of P3, from 1 on: (2, 0), (0x80000001, 6), (4, 0x80000001), (0x80000000, 3), (0, 0), (2, 0x80000003).
-fn p3_slots() -> [u8; 141] {
-    let mut image = header(7, 4, 13);
-    image[32] = 2;
-    image[40] = 1;
-    image[43] = 0x80;
-    image[44] = 6;
-    image[48] = 4;
-    image[52] = 1;
-    image[55] = 0x80;
-    image[59] = 0x80;
-    image[60] = 3;
-    image[72] = 2;
-    image[76] = 3;
-    image[79] = 0x80;
-    image
-}
-
-// P3, keys 6E and 6E 61: offsets 0 0 1 1 3 3 3 4, children 3 4 6 2, and the code map.
-fn p3() -> [u8; 141] {
-    let mut image = p3_slots();
-    image[88] = 1;
-    image[92] = 1;
-    image[96] = 3;
-    image[100] = 3;
-    image[104] = 3;
-    image[108] = 4;
-    image[112] = 3;
-    image[116] = 4;
-    image[120] = 6;
-    image[124] = 2;
-    image[128] = 1;
-    image[132] = 2;
-    image[136] = 0x6E;
-    image[140] = 0x61;
-    image
-}
-
-// P2, the empty key alone, in the first 73 bytes: slots (0, 0), (2, 0x80000000), (0x80000000, 1), offsets 0 0 1 1, child 2.
-fn p2() -> [u8; 141] {
-    let mut image = header(3, 1, 5);
-    image[32] = 2;
-    image[39] = 0x80;
-    image[43] = 0x80;
-    image[44] = 1;
-    image[56] = 1;
-    image[60] = 1;
-    image[64] = 2;
-    image[68] = 1;
-    image
-}
-
-// In the first 61 bytes, slots (0x80000005, 1) and (0, 0x80000001): slot 1 is its own child by label 61, and slot 0 its end.
-// The check would refuse it, but it passes 1 to 8, and any number of labels 61 walks.
-fn own_child() -> [u8; 141] {
-    let mut image = header(2, 0, 9);
+// Slots (0x80000005, 1) and (0, 0x80000001): slot 1 is its own child by label 61, and slot 0 its end. The check would refuse
+// it, but it passes 1 to 8, and any number of labels 61 walks.
+fn own_child() -> [u8; 61] {
+    let mut image = [0u8; 61];
+    put_header(&mut image, 2, 0, 9);
     image[24] = 5;
     image[27] = 0x80;
     image[28] = 1;
@@ -98,14 +37,6 @@ fn many_labels() -> [u8; 264] {
         i += 1;
     }
     query
-}
-
-// The first n bytes, or all if there are fewer.
-fn front<'a>(bytes: &'a [u8], n: usize) -> &'a [u8] {
-    if n < bytes.len() {
-        return &bytes[..n];
-    }
-    bytes
 }
 
 fn print(text: &[u8]) {
@@ -269,7 +200,7 @@ fn main() {
     show_p5(&image);
     show_p6(&image);
     show_p7();
-    show_empty_key(front(&p2(), 73));
-    show_limit(front(&own_child(), 61), &many_labels());
+    show_empty_key(&p2());
+    show_limit(&own_child(), &many_labels());
     show_refusals(&image);
 }

@@ -3,8 +3,8 @@ use borrow.Author.Needs.{needs}
 use mathlib.Core.Path.{sym}
 use native.Mathlib.Omega.{arith}
 use lib.Seq.{length-take-le}
-use Rattle.search_examples.proofs.front.Statement.{statement}
-use Rattle.search_examples.proofs.front.Tie as tie
+use Rattle.sample_images.proofs.front.Statement.{statement}
+use Rattle.sample_images.proofs.front.Tie as tie
 
 pub front-spec : {M : Type 1} → statement M
 front-spec =

@@ -1,0 +1,22 @@
+-- Each fault that is there gives its number; where none is, none is refused. Rule 12 is tested where rule 10 finds no fault.
+use borrow.Author.Needs.{needs}
+use Rattle.lxtr_spec.specs.Refusals.{bodyRefusal}
+use Rattle.lxtr_laws.specs.Tests.{outcome}
+use Rattle.lxtr_laws.specs.Refusing.{chain}
+use Rattle.lxtr_check.proofs.body_refusal.Statement.{statement}
+use Rattle.lxtr_check.proofs.body_refusal.Tie as tie
+
+pub body-refusal-spec : {M : Type 1} → statement M
+unfolding bodyRefusal
+body-refusal-spec =
+    tie.close
+    (tie.spec
+    (λ c κs. search needs)
+    (λ c. search chain depth 14)
+    (λ c κs. search needs)
+    (λ c. search chain depth 14)
+    (λ c κs. search needs)
+    (λ c. search chain depth 14)
+    (λ c κs. (search needs, search outcome))
+    (λ c. search chain depth 14)
+    (λ c. search chain depth 14))

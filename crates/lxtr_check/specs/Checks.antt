@@ -1,0 +1,184 @@
+-- Rules 10 to 12 and the check as the code makes them, test by test. Results of calls are variables: each law says which definition
+-- the tests of one return make.
+use Prim.Native.Nat.{ℕ, zero, suc, _+_, _-_, _≤_, _<_}
+use mathlib.Core.Path.{_≡_, refl, sym, _∙_}
+use mathlib.Core.Logic.{_≢_}
+use mathlib.Core.List.{List}
+use mathlib.Core.Bool.{Bool, true, false, _||_, not, Bool·beq, or-true, or-false}
+use native.Mathlib.Omega.{arith}
+use native.Mathlib.Decide.{decLt}
+use lib.Dec.{leb, ltb, eqb}
+use borrow.Author.Tests.{lt-ltb, le-ltb, le-leb, lt-leb, eq-eqb, ne-eqb}
+use Rattle.lxtr_spec.specs.Ranges.{anyBelow}
+use Rattle.lxtr_spec.specs.Labels.{lengthCount}
+use Rattle.lxtr_spec.specs.Image.{slotCount, childCount, isLeaf, parent, codeTo, offset, child, listWidth, labelCount}
+use Rattle.lxtr_spec.specs.Refusals.{firstRefusal, unlessRefused, headerRefusal, isUsedFrom2, isUsed, ownCode, bothZero, usedSlotWrong, flagWrong, slotWrong, slotsWrong, offsetFalls, usedCount, entryWrong, codeNotAbove, entriesWrong, childless, rootWrong, listsWrong, reaches, unreachable, bodyRefusal, imageRefusal, endCount, checkOf}
+use Rattle.lxtr_spec.specs.declared.Verdict.{Verdict}
+use Rattle.lxtr_laws.specs.Tests.{outcome, not-is-true, not-is-false}
+use Rattle.lxtr_laws.specs.Ranges.{tests}
+use Rattle.lxtr_laws.specs.Refusing.{first-stands, stands}
+use Rattle.lxtr_laws.specs.Passed.{Whole, Passed, header-passed}
+use Rattle.lxtr_laws.specs.Facts.{SlotRight, unused-parent}
+use Rattle.lxtr_laws.specs.Lists.{in-list, in-children}
+use Rattle.lxtr_laws.specs.Faults.{used-from-2, slots-right, offsets-right, parts-pass}
+
+-- a slot from 2 up that is unused has parent 0
+no-parent : (b : List ℕ) (s : ℕ) → 2 ≤ s → isUsedFrom2 b s ≡ false → parent b s ≡ 0
+unfolding isUsedFrom2
+no-parent b s h e = simp tests at e h
+
+-- 10: of a used slot s from 2 up, whose parent is p
+module _ (b : List ℕ) (s p slots : ℕ) (count : slots ≡ slotCount b) (up : p ≡ parent b s) where
+  pub parent-past : slots ≤ p → true ≡ usedSlotWrong b s
+  unfolding usedSlotWrong
+  parent-past h = rw (← up, ← count, le-leb slots p h)
+
+  -- c is its code
+  pub parent-tested : (u l t : Bool) (c labels : ℕ) → p < slots → c ≡ codeTo b p s → u ≡ isUsed b p → l ≡ isLeaf b p → labels ≡ labelCount b → t ≡ isLeaf b s
+      → (not u || l || ltb labels c || not (Bool·beq t (eqb c 0))) ≡ usedSlotWrong b s
+  unfolding usedSlotWrong ownCode
+  parent-tested u l t c labels h code used leaf listed own = rw (← up, ← count, lt-leb slots p h, ← code, ← used, ← leaf, ← listed, ← own)
+
+-- slot s by its kind; f is what was found of its flag
+module _ (b : List ℕ) (s : ℕ) where
+  pub slot-zero : (z : Bool) → s ≡ 0 → z ≡ bothZero b s → not z ≡ slotWrong b s
+  unfolding slotWrong isUsedFrom2
+  slot-zero z h e = rw (← e, h, or-false, or-false, or-false, or-false)
+
+  module _ (f : Bool) (flag : f ≡ flagWrong b s) where
+    pub slot-one : (l : Bool) (p : ℕ) → s ≡ 1 → l ≡ isLeaf b s → p ≡ parent b s → (l || not (eqb p 0) || f) ≡ slotWrong b s
+    unfolding slotWrong isUsedFrom2
+    slot-one l p h leaf up = rw (← flag, ← leaf, ← up, h, or-false, or-false)
+
+    -- u is whether it is a used slot from 2 up
+    module _ (u : Bool) (h : s ≢ 0) (k : s ≢ 1) (used : u ≡ isUsedFrom2 b s) where
+      pub slot-unused : (z : Bool) → not u ≡ true → z ≡ bothZero b s → (not z || f) ≡ slotWrong b s
+      unfolding slotWrong
+      slot-unused z n e =
+          let none : isUsedFrom2 b s ≡ false = outcome u _ _ used (not-is-true u .0 n) in
+          rw (none, eq-eqb (parent b s) 0 (no-parent b s (omega arith) none), ← flag, ← e, ne-eqb s 0 h, ne-eqb s 1 k, le-leb 2 s (omega arith), le-leb 1 s (omega arith), or-false)
+
+      pub slot-used : (w : Bool) → not u ≡ false → w ≡ usedSlotWrong b s → (w || f) ≡ slotWrong b s
+      unfolding slotWrong
+      slot-used w n e =
+          let is : isUsedFrom2 b s ≡ true = outcome u _ _ used (not-is-false u .0 n) in
+          rw (is, ne-eqb (parent b s) 0 (used-from-2 b s .0 is .1), ← flag, ← e, ne-eqb s 0 h, ne-eqb s 1 k, le-leb 2 s (omega arith), le-leb 1 s (omega arith))
+
+-- 11: where offsets don't fall, entry i of the list of slot p, which is w wide, is a child
+pub entry-place : (b : List ℕ) (p i w : ℕ) → Passed b → anyBelow (slotCount b) (offsetFalls b) ≡ false → p < slotCount b → w ≡ listWidth b p → i < w → offset b p + i < childCount b
+entry-place b p i w ok rising slot wide h = omega (arith, ok .last, in-children b (offsets-right b .0 rising) p (offset b p + i) slot (in-list b p (offset b p + i) .1 (omega arith)))
+
+-- entry j, which is t
+module _ (b : List ℕ) (p j t slots : ℕ) (count : slots ≡ slotCount b) (at : t ≡ child b j) where
+  pub entry-past : slots ≤ t → true ≡ entryWrong b p j
+  unfolding entryWrong
+  entry-past h = rw (← at, ← count, le-leb slots t h, or-true)
+
+  pub entry-tested : (u : Bool) (q : ℕ) → t < slots → u ≡ isUsed b t → q ≡ parent b t → (ltb t 2 || not u || not (eqb q p)) ≡ entryWrong b p j
+  unfolding entryWrong
+  entry-tested u q h used up = rw (← at, ← count, lt-leb slots t h, or-false, ← used, ← up)
+
+-- and its code; o is where the list starts
+module _ (b : List ℕ) (p j o : ℕ) (from : o ≡ offset b p) where
+  pub code-first : j ≤ o → false ≡ codeNotAbove b p j
+  unfolding codeNotAbove
+  code-first h = rw (← from, le-ltb o j h)
+
+  pub code-later : (c d t u : ℕ) → o < j → t ≡ child b j → u ≡ child b (j - 1) → c ≡ codeTo b p t → d ≡ codeTo b p u → leb c d ≡ codeNotAbove b p j
+  unfolding codeNotAbove
+  code-later c d t u h at before code last = rw (← from, lt-ltb o j h, ← at, ← before, ← code, ← last)
+
+-- r is whether offsets fall
+module _ (b : List ℕ) (r : Bool) (falls : r ≡ anyBelow (slotCount b) (offsetFalls b)) where
+  pub lists-fall : r ≡ true → true ≡ listsWrong b
+  unfolding listsWrong
+  lists-fall h = rw (← falls, h)
+
+  pub lists-tested : (e u : ℕ) (w c o : Bool) → r ≡ false → e ≡ childCount b → u ≡ usedCount b → w ≡ anyBelow (slotCount b) (entriesWrong b) → c ≡ anyBelow (slotCount b) (childless b) → o ≡ rootWrong b
+      → (not (eqb e u) || w || c || o) ≡ listsWrong b
+  unfolding listsWrong
+  lists-tested e u w c o h children used entries lone root = rw (← falls, h, ← children, ← used, ← entries, ← lone, ← root)
+
+-- 12: where no slot is wrong, each step to the parent comes to a slot
+module _ (b : List ℕ) where
+  parent-slot : Whole b → slotsWrong b ≡ false → (s : ℕ) → s < slotCount b → parent b s < slotCount b
+  parent-slot ok right s h = go s (slots-right b .0 right s h) (decLt 0 (parent b s))
+    where
+      some-slot : 0 < slotCount b
+      some-slot = omega (arith, ok .sized .slots-from)
+
+      go : (n : ℕ) → SlotRight b n → Dec (0 < parent b n) → parent b n < slotCount b
+      go n r (no e) = omega (arith, some-slot)
+      go zero r (yes e) = absurd (omega (arith, unused-parent (r .zero refl)))
+      go (suc zero) r (yes e) = absurd (omega (arith, r .root refl .1))
+      go (suc (suc n)) r (yes e) = r .used (omega arith, λ z. omega arith) .parent-below
+
+-- slot s reaches slot 1 exactly when slot n does by k or fewer steps
+pub record Reaching (b : List ℕ) (s k n : ℕ) : Type 0 where
+  pub below : n < slotCount b
+  pub rest : reaches b lengthCount s ≡ reaches b k n
+
+module _ (b : List ℕ) (s : ℕ) where
+  pub reach-start : s < slotCount b → Reaching b s lengthCount s
+  reach-start h = record { below = h; rest = refl }
+
+  module _ (k n : ℕ) (w : Reaching b s k n) where
+    pub reach-found : 0 < k → n ≡ 1 → true ≡ reaches b lengthCount s
+    unfolding reaches
+    reach-found h e = sym (w .rest ∙ at k h)
+      where
+        at : (k : ℕ) → 0 < k → reaches b k n ≡ true
+        at zero h = absurd (omega arith)
+        at (suc k) h = rw (eq-eqb n 1 e)
+
+    pub reach-next : (p : ℕ) → Whole b → slotsWrong b ≡ false → 0 < k → n ≢ 1 → p ≡ parent b n → Reaching b s (k - 1) p
+    unfolding reaches
+    reach-next p ok right h e up = record { below = rw up (parent-slot b ok right n (w .below)); rest = w .rest ∙ rw up (at k h) }
+      where
+        at : (k : ℕ) → 0 < k → reaches b k n ≡ reaches b (k - 1) (parent b n)
+        at zero h = absurd (omega arith)
+        at (suc k) h = let q : suc k - 1 ≡ k = omega arith in rw (q, ne-eqb n 1 e)
+
+    pub reach-end : k ≤ 0 → eqb n 1 ≡ reaches b lengthCount s
+    unfolding reaches
+    reach-end h = sym (w .rest ∙ at k h)
+      where
+        at : (k : ℕ) → k ≤ 0 → reaches b k n ≡ eqb n 1
+        at zero h = refl
+        at (suc k) h = absurd (omega arith)
+
+  -- u is whether s is a used slot from 2 up
+  module _ (u : Bool) (used : u ≡ isUsedFrom2 b s) where
+    pub reach-unused : not u ≡ true → false ≡ unreachable b s
+    unfolding unreachable
+    reach-unused h = rw (← used, not-is-true u .0 h)
+
+    pub reach-tested : (r : Bool) → not u ≡ false → r ≡ reaches b lengthCount s → not r ≡ unreachable b s
+    unfolding unreachable
+    reach-tested r h e = rw (← used, not-is-false u .0 h, ← e)
+
+-- the check: r is the refusal that a call answered
+module _ (b : List ℕ) (r : ℕ) where
+  module _ (header : r ≡ headerRefusal b) where
+    pub header-refused : r ≢ 0 → r ≡ imageRefusal b
+    unfolding imageRefusal
+    header-refused h = rw (← header) (sym (first-stands r (bodyRefusal b) h))
+
+    pub header-allowed : r ≡ 0 → Passed b
+    header-allowed z = header-passed (sym header ∙ z)
+
+    pub body-refused : (k : ℕ) → r ≡ 0 → k ≡ bodyRefusal b → k ≡ imageRefusal b
+    unfolding imageRefusal firstRefusal
+    body-refused k z e = rw (sym header ∙ z) e
+
+  module _ (known : r ≡ imageRefusal b) where
+    pub check-refused : r ≢ 0 → _≡_ {A = Verdict} (record { refusal = r; pairs = 0 }) (checkOf b)
+    unfolding checkOf
+    check-refused h = rw (← known, stands r (endCount b) 0 h)
+
+    pub check-allowed : r ≡ 0 → Whole b
+    check-allowed z = header-passed (parts-pass b (sym known ∙ z) .0) .whole
+
+    pub check-counted : (n : ℕ) → r ≡ 0 → n ≡ endCount b → _≡_ {A = Verdict} (record { refusal = 0; pairs = n }) (checkOf b)
+    unfolding checkOf unlessRefused
+    check-counted n z e = rw (← known, z, e)

@@ -1,0 +1,88 @@
+// Rule 9: a listed label is no scalar value or is listed twice. Labels that leave the same remainder when divided by CHAINS form a
+// chain, so that a label is compared with the few of its chain instead of with all before it.
+ghost use mathlib.Core.Path.{_≡_};
+ghost use Prim.Native.Nat.{_+_, _<_};
+ghost use Rattle.lxtr_spec.specs.Ranges.{anyBelow};
+ghost use Rattle.lxtr_spec.specs.Image.{labelCount};
+ghost use Rattle.lxtr_spec.specs.Refusals.{sameLabel, labelWrong, labelsWrong};
+ghost use Rattle.lxtr_laws.specs.Passed.{Passed};
+ghost use Rattle.lxtr_check.specs.Chains.{chainCount, chainOf, Chained};
+use lxtr_image::code_map::label_at;
+use lxtr_image::code_map::label_count;
+use lxtr_image::labels::is_scalar;
+use lxtr_spec::MAX_LISTED;
+
+// How many chains there are: 4,096, a power of two, so that the remainder needs no division. Scalar values are below 0x110000, so
+// a chain of distinct ones has at most 272 of them.
+const CHAINS: usize = MAX_LISTED + 1;
+
+// The chain of a label.
+fn chain_of(label: u32) -> usize
+    ensures { λ r. ⌜ r ≡ chainOf label ⌝ }
+    ensures { λ r. ⌜ r < chainCount ⌝ }
+{
+    label as usize % CHAINS
+}
+
+// Whether a place before i lists the same label. An entry of a table is one more than a place, and 0 for none: `last` has the last
+// entry of each chain, `before` for each place the entry before it in its chain.
+fn listed_before(image: &[u8], i: u32, last: &[u32], before: &[u32]) -> bool
+    requires { ⌜ Passed (now image) ⌝ }
+    requires { ⌜ i < labelCount (now image) ⌝ }
+    requires { ⌜ Chained (now image) i (now last) (now before) ⌝ }
+    ensures { λ r. ⌜ r ≡ anyBelow i (sameLabel (now (image .entry)) i) ⌝ }
+{
+    let label = label_at(image, i);
+    let mut entry = last[chain_of(label)];
+    while 0 < entry {
+        let place = entry - 1;
+        if label_at(image, place) == label {
+            return true;
+        }
+        entry = before[place as usize];
+    }
+    false
+}
+
+// The label at place i is wrong. Only scalar values come into the chains, which keeps these short.
+fn label_wrong(image: &[u8], i: u32, last: &[u32], before: &[u32]) -> bool
+    requires { ⌜ Passed (now image) ⌝ }
+    requires { ⌜ i < labelCount (now image) ⌝ }
+    requires { ⌜ Chained (now image) i (now last) (now before) ⌝ }
+    ensures { λ r. ⌜ r ≡ labelWrong (now (image .entry)) i ⌝ }
+{
+    if !is_scalar(label_at(image, i)) {
+        return true;
+    }
+    listed_before(image, i, last, before)
+}
+
+// Puts the label at place i at the end of its chain.
+fn put_last(image: &[u8], i: u32, last: &mut [u32], before: &mut [u32])
+    requires { ⌜ Passed (now image) ⌝ }
+    requires { ⌜ i < labelCount (now image) ⌝ }
+    requires { ⌜ Chained (now image) i (now last) (now before) ⌝ }
+    ensures { λ _. ⌜ Chained (now (image .entry)) (i + 1) (now (last .exit)) (now (before .exit)) ⌝ }
+{
+    let chain = chain_of(label_at(image, i));
+    before[i as usize] = last[chain];
+    last[chain] = i + 1;
+}
+
+pub fn labels_wrong(image: &[u8]) -> bool
+    requires { ⌜ Passed (now image) ⌝ }
+    ensures { λ r. ⌜ r ≡ labelsWrong (now (image .entry)) ⌝ }
+{
+    let count = label_count(image);
+    let mut last = [0u32; CHAINS];
+    let mut before = [0u32; MAX_LISTED];
+    let mut i: u32 = 0;
+    while i < count {
+        if label_wrong(image, i, &last, &before) {
+            return true;
+        }
+        put_last(image, i, &mut last, &mut before);
+        i += 1;
+    }
+    false
+}

@@ -1,0 +1,90 @@
+// Checks LXTR images: whether any bytes are an image, and of how many pairs. One module for each of rules 9 to 12,
+// then the check, which any caller may use. `body_refusal` is for the crates above.
+mod labels; // 9: the listed labels
+mod slots; // 10: the slots
+mod lists; // 11: the children lists
+mod reach; // 12: the way from each slot to slot 1
+
+ghost use mathlib.Core.Path.{_≡_};
+ghost use Prim.Native.Nat.{_<_};
+ghost use Rattle.lxtr_spec.specs.Image.{slotCount};
+ghost use Rattle.lxtr_spec.specs.Refusals.{bodyRefusal, imageRefusal, isEnd, endCount, checkOf};
+ghost use Rattle.lxtr_laws.specs.Passed.{Whole, Passed};
+use crate::labels::labels_wrong;
+use crate::lists::lists_wrong;
+use crate::reach::some_unreachable;
+use crate::slots::is_used_from_2;
+use crate::slots::slots_wrong;
+use lxtr_image::header::header_refusal;
+use lxtr_image::nodes::is_leaf;
+use lxtr_image::sections::slot_count;
+use lxtr_spec::Verdict;
+
+// The first of refusals 9 to 12 that holds, or 0, for bytes that passed 1 to 8.
+pub fn body_refusal(image: &[u8]) -> u8
+    requires { ⌜ Passed (now image) ⌝ }
+    ensures { λ r. ⌜ r ≡ bodyRefusal (now (image .entry)) ⌝ }
+{
+    if labels_wrong(image) {
+        return 9;
+    }
+    if slots_wrong(image) {
+        return 10;
+    }
+    if lists_wrong(image) {
+        return 11;
+    }
+    if some_unreachable(image) {
+        return 12;
+    }
+    0
+}
+
+// The first of refusals 1 to 12 that holds, or 0.
+fn image_refusal(image: &[u8]) -> u8
+    ensures { λ r. ⌜ r ≡ imageRefusal (now (image .entry)) ⌝ }
+{
+    let refusal = header_refusal(image);
+    if refusal != 0 {
+        return refusal;
+    }
+    body_refusal(image)
+}
+
+// Whether slot s is a key's end.
+fn is_end(image: &[u8], s: u32) -> bool
+    requires { ⌜ Whole (now image) ⌝ }
+    requires { ⌜ s < slotCount (now image) ⌝ }
+    ensures { λ r. ⌜ r ≡ isEnd (now (image .entry)) s ⌝ }
+{
+    is_used_from_2(image, s) & is_leaf(image, s)
+}
+
+// How many ends there are.
+fn end_count(image: &[u8]) -> u32
+    requires { ⌜ Whole (now image) ⌝ }
+    ensures { λ r. ⌜ r ≡ endCount (now (image .entry)) ⌝ }
+{
+    let slots = slot_count(image);
+    let mut ends: u32 = 0;
+    let mut s: u32 = 0;
+    while s < slots {
+        ends += is_end(image, s) as u32;
+        s += 1;
+    }
+    ends
+}
+
+// The check: the number of pairs in the set of which the bytes are an image, or a refusal and 0.
+pub fn check(image: &[u8]) -> Verdict
+    ensures { λ r. ⌜ r ≡ checkOf (now (image .entry)) ⌝ }
+{
+    let refusal = image_refusal(image);
+    if refusal != 0 {
+        return Verdict { refusal, pairs: 0 };
+    }
+    Verdict {
+        refusal: 0,
+        pairs: end_count(image),
+    }
+}
