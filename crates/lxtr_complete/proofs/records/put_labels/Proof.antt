@@ -1,0 +1,33 @@
+-- Invariant: the first i labels are in the room. Each turn lays one more behind them.
+use borrow.Author.Needs.{needs}
+use Prim.Native.Nat.{_-_, _≤_}
+use mathlib.Core.Path.{_≡_}
+use native.Mathlib.Omega.{arith}
+use lib.ListN.{length}
+use Rattle.lxtr_complete.specs.Overlays.{LabelsIn, labels-start, labels-next, labels-end}
+use Rattle.lxtr_complete.proofs.records.put_labels.Statement.{statement}
+use Rattle.lxtr_complete.proofs.records.put_labels.Tie as tie
+
+abbrev Inv-loop : tie.InvT-loop
+Inv-loop path len room₀ at i₀ room i = (i ≤ len) × (length room ≡ length room₀) × LabelsIn room₀ path at i room
+
+abbrev μ-loop : tie.MeasureT-loop
+μ-loop path len room₀ at i₀ room i = len - i
+
+pub put-labels-spec : {M : Type 1} → statement M
+put-labels-spec =
+    tie.close
+    (tie.spec
+    Inv-loop
+    μ-loop
+    (λ c. (search needs, search needs, search labels-start))
+    (λ c. omega arith)
+    (λ c. omega arith)
+    (λ c. omega arith)
+    (λ c. omega arith)
+    (λ c κs. omega arith)
+    (λ c. omega arith)
+    (λ c. omega arith)
+    (λ c. (omega arith, search needs, search labels-next))
+    (λ c. search needs)
+    (λ c. search labels-end))

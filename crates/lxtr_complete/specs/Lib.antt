@@ -1,0 +1,10 @@
+-- What the code of completion computes, turn by turn. Of these a reader of its contracts, all of private functions, meets the
+-- definitions that open Overlays, Writing and Listing, and Progress.
+pub mod Overlays
+pub mod Writing
+pub mod Written
+pub mod Sums
+pub mod Amounts
+pub mod Listing
+pub mod Completing
+pub mod Progress

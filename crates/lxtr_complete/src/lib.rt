@@ -1,0 +1,147 @@
+// Completions of LXTR images, written into lent room: the pairs whose keys begin with the labels of a query.
+// Any caller may use `complete`; the other functions are its parts.
+mod records; // one record after the other
+mod listing; // the pairs below a slot
+
+ghost use mathlib.Core.Path.{_≡_};
+ghost use mathlib.Core.List.{[], _∷_};
+ghost use mathlib.Core.Bool.{false};
+ghost use Prim.Native.Nat.{_-_, _≤_, _<_};
+ghost use lib.ListN.{length, take};
+ghost use Rattle.lxtr_spec.specs.Words.{beBytes};
+ghost use Rattle.lxtr_spec.specs.Labels.{maxLabels, lengthCount, labelsOf};
+ghost use Rattle.lxtr_spec.specs.Image.{slotCount};
+ghost use Rattle.lxtr_spec.specs.Completions.{listFrom, pairsBelow, written, completionRefusal, completionOf};
+ghost use Rattle.lxtr_laws.specs.Facts.{Accepted};
+ghost use Rattle.lxtr_complete.specs.Overlays.{over};
+ghost use Rattle.lxtr_complete.specs.Writing.{state};
+ghost use Rattle.lxtr_complete.specs.Listing.{ListReady};
+use crate::listing::list_below;
+use crate::records::Progress;
+use crate::records::put_be32;
+use lxtr_check::body_refusal;
+use lxtr_search::query::label_at;
+use lxtr_search::query::label_count;
+use lxtr_search::query::search_refusal;
+use lxtr_search::walk::walk_within;
+use lxtr_spec::Completion;
+use lxtr_spec::Found;
+use lxtr_spec::LENGTH_COUNT;
+
+// How many bytes version and count take, at the front of the room.
+const HEAD_LENGTH: usize = 5;
+
+// Version 1 and a count.
+fn put_head(room: &mut [u8], count: u32)
+    requires { ⌜ 5 ≤ length (now room) ⌝ }
+    ensures { λ _. ⌜ now (room .exit) ≡ over (now (room .entry)) 0 (1 ∷ beBytes count) ⌝ }
+{
+    room[0] = 1;
+    put_be32(room, 1, count);
+}
+
+// The labels of a query, at the front of a path.
+fn fill_path(query: &[u8], path: &mut [u32])
+    requires { ⌜ length (labelsOf (now query)) ≤ length (now path) ⌝ }
+    ensures { λ _. ⌜ take (length (labelsOf (now (query .entry)))) (now (path .exit)) ≡ labelsOf (now (query .entry)) ⌝ }
+{
+    let count = label_count(query);
+    let mut i = 0;
+    while i < count {
+        path[i] = label_at(query, i);
+        i += 1;
+    }
+}
+
+// The listing of no pairs.
+fn list_none(room: &mut [u8]) -> Completion
+    requires { ⌜ 5 ≤ length (now room) ⌝ }
+    ensures { λ r. ⌜ record { answer = r; room = now (room .exit) } ≡ written (now (room .entry)) [] ⌝ }
+{
+    put_head(room, 0);
+    Completion {
+        refusal: 0,
+        count: 0,
+        stopped: false,
+    }
+}
+
+// The listing of the pairs below slot n, whose labels are the first `len` of the path. The records go behind version and count,
+// which are written when the count is known.
+fn list_with_head(image: &[u8], n: u32, path: &mut [u32], len: usize, room: &mut [u8]) -> Completion
+    requires { ⌜ Accepted (now image) ⌝ }
+    requires { ⌜ ListReady (now image) (lengthCount - len) n len (now path) (state (now room) 5 0 false) ⌝ }
+    ensures { λ r. ⌜ record { answer = r; room = now (room .exit) } ≡ written (now (room .entry)) (listFrom (now (image .entry)) (lengthCount - len) n (take len (now (path .entry)))) ⌝ }
+{
+    let start = Progress {
+        at: HEAD_LENGTH,
+        count: 0,
+        stopped: false,
+    };
+    let end = list_below(image, LENGTH_COUNT - len, n, path, len, room, start);
+    let count = end.count as u32;
+    put_head(room, count);
+    Completion {
+        refusal: 0,
+        count,
+        stopped: end.stopped,
+    }
+}
+
+// The same, where the labels of the query reach slot n.
+fn list_reached(image: &[u8], n: u32, query: &[u8], room: &mut [u8]) -> Completion
+    requires { ⌜ Accepted (now image) ⌝ }
+    requires { ⌜ n < slotCount (now image) ⌝ }
+    requires { ⌜ length (labelsOf (now query)) ≤ maxLabels ⌝ }
+    requires { ⌜ 5 ≤ length (now room) ⌝ }
+    ensures { λ r. ⌜ record { answer = r; room = now (room .exit) } ≡ written (now (room .entry)) (listFrom (now (image .entry)) (lengthCount - length (labelsOf (now (query .entry)))) n (labelsOf (now (query .entry)))) ⌝ }
+{
+    let mut path = [0u32; LENGTH_COUNT];
+    fill_path(query, &mut path);
+    list_with_head(image, n, &mut path, label_count(query), room)
+}
+
+// The listing of the pairs whose keys begin with the labels of the query; of none where these reach no slot.
+fn list_pairs(image: &[u8], query: &[u8], room: &mut [u8]) -> Completion
+    requires { ⌜ Accepted (now image) ⌝ }
+    requires { ⌜ 5 ≤ length (now room) ⌝ }
+    ensures { λ r. ⌜ record { answer = r; room = now (room .exit) } ≡ written (now (room .entry)) (pairsBelow (now (image .entry)) (labelsOf (now (query .entry)))) ⌝ }
+{
+    let Found::Is(n) = walk_within(image, query) else {
+        return list_none(room);
+    };
+    list_reached(image, n, query, room)
+}
+
+// 1 to 8 of the image, 13 of the query, 9 to 12 of the image, then 14 for room below 5 bytes; or 0.
+fn completion_refusal(image: &[u8], query: &[u8], room: &[u8]) -> u8
+    ensures { λ r. ⌜ r ≡ completionRefusal (now (image .entry)) (now (query .entry)) (now (room .entry)) ⌝ }
+{
+    let before = search_refusal(image, query);
+    if before != 0 {
+        return before;
+    }
+    let body = body_refusal(image);
+    if body != 0 {
+        return body;
+    }
+    if room.len() < HEAD_LENGTH {
+        return 14;
+    }
+    0
+}
+
+// Completions: as many of the pairs whose keys begin with the labels of the query as there is room for. A refusal writes nothing.
+pub fn complete(image: &[u8], query: &[u8], room: &mut [u8]) -> Completion
+    ensures { λ r. ⌜ record { answer = r; room = now (room .exit) } ≡ completionOf (now (image .entry)) (now (query .entry)) (now (room .entry)) ⌝ }
+{
+    let refusal = completion_refusal(image, query, room);
+    if refusal != 0 {
+        return Completion {
+            refusal,
+            count: 0,
+            stopped: false,
+        };
+    }
+    list_pairs(image, query, room)
+}
