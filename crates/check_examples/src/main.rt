@@ -30,11 +30,17 @@ fn show(what: &[u8], image: &[u8]) {
     print(b"\n");
 }
 
-// P3 with other bytes at one place or two.
-fn show_p3_with(what: &[u8], at: usize, byte: u8, other_at: usize, other: u8) {
+// P3 with another byte at one place, and at two.
+fn show_p3_with(what: &[u8], at: usize, byte: u8) {
     let mut image = p3();
-    put(&mut image, at, byte as usize);
-    put(&mut image, other_at, other as usize);
+    put_byte(&mut image, at, byte);
+    show(what, &image);
+}
+
+fn show_p3_with_two(what: &[u8], at: usize, byte: u8, other_at: usize, other: u8) {
+    let mut image = p3();
+    put_byte(&mut image, at, byte);
+    put_byte(&mut image, other_at, other);
     show(what, &image);
 }
 
@@ -62,40 +68,40 @@ fn show_examples() {
     show(b"P1: ", &p1());
     show(b"P2: ", &p2());
     show(b"P3: ", &p3());
-    show_p3_with(b"P7: ", 120, 4, 120, 4);
-    show_p3_with(b"P8, check of slot 3: ", 55, 0, 55, 0);
-    show_p3_with(b"P8, slot 5: ", 64, 7, 64, 7);
-    show_p3_with(b"P9, both labels 6E: ", 140, 0x6E, 140, 0x6E);
+    show_p3_with(b"P7: ", 120, 4);
+    show_p3_with(b"P8, check of slot 3: ", 55, 0);
+    show_p3_with(b"P8, slot 5: ", 64, 7);
+    show_p3_with(b"P9, both labels 6E: ", 140, 0x6E);
     show_p9_longer();
     show(b"P10: ", &p10());
     show(b"P11: ", &p11());
 }
 
 fn show_labels() {
-    show_p3_with(b"second label D800: ", 139, 0xD8, 140, 0);
-    show_p3_with(b"second label 110061: ", 138, 0x11, 138, 0x11);
-    show_p3_with(b"second label 106E: ", 139, 0x10, 140, 0x6E);
+    show_p3_with_two(b"second label D800: ", 139, 0xD8, 140, 0);
+    show_p3_with(b"second label 110061: ", 138, 0x11);
+    show_p3_with_two(b"second label 106E: ", 139, 0x10, 140, 0x6E);
     show_long_map(b"4,095 labels: ", 0x20FFE);
     show_long_map(b"4,095 labels, the last as the first: ", 0x20000);
 }
 
 fn show_slots() {
-    show_p3_with(b"slot 0 not zero: ", 24, 1, 24, 1);
-    show_p3_with(b"slot 1 with parent 1: ", 36, 1, 36, 1);
-    show_p3_with(b"slot 1 with HAS_LEAF: ", 39, 0x80, 39, 0x80);
-    show_p3_with(b"slot 2 no leaf: ", 43, 0, 43, 0);
-    show_p3_with(b"slot 6 with parent 9: ", 76, 9, 76, 9);
-    show_p3_with(b"slot 6 with the unused parent 5: ", 76, 5, 76, 5);
-    show_p3_with(b"slot 6 with the leaf 4 as parent: ", 76, 4, 76, 4);
-    show_p3_with(b"slot 3 with code 3: ", 32, 0, 32, 0);
+    show_p3_with(b"slot 0 not zero: ", 24, 1);
+    show_p3_with(b"slot 1 with parent 1: ", 36, 1);
+    show_p3_with(b"slot 1 with HAS_LEAF: ", 39, 0x80);
+    show_p3_with(b"slot 2 no leaf: ", 43, 0);
+    show_p3_with(b"slot 6 with parent 9: ", 76, 9);
+    show_p3_with(b"slot 6 with the unused parent 5: ", 76, 5);
+    show_p3_with(b"slot 6 with the leaf 4 as parent: ", 76, 4);
+    show_p3_with(b"slot 3 with code 3: ", 32, 0);
 }
 
 fn show_lists() {
-    show_p3_with(b"offsets 0 4 1: ", 84, 4, 84, 4);
-    show_p3_with(b"child 9: ", 120, 9, 120, 9);
-    show_p3_with(b"child 1: ", 112, 1, 112, 1);
-    show_p3_with(b"child of slot 6 is slot 4: ", 124, 4, 124, 4);
-    show_p3_with(b"codes 2 and 0 in the list of slot 3: ", 116, 6, 120, 4);
+    show_p3_with(b"offsets 0 4 1: ", 84, 4);
+    show_p3_with(b"child 9: ", 120, 9);
+    show_p3_with(b"child 1: ", 112, 1);
+    show_p3_with(b"child of slot 6 is slot 4: ", 124, 4);
+    show_p3_with_two(b"codes 2 and 0 in the list of slot 3: ", 116, 6, 120, 4);
     show(b"slot 6 in no list: ", &lacking());
     show_childless();
     show_lone_base();
@@ -103,8 +109,8 @@ fn show_lists() {
 
 // Two faults, of which the first counts.
 fn show_two_faults() {
-    show_p3_with(b"both labels 6E, slot 5 not zero: ", 140, 0x6E, 64, 7);
-    show_p3_with(b"slot 5 not zero, children 3 4 4 2: ", 64, 7, 120, 4);
+    show_p3_with_two(b"both labels 6E, slot 5 not zero: ", 140, 0x6E, 64, 7);
+    show_p3_with_two(b"slot 5 not zero, children 3 4 4 2: ", 64, 7, 120, 4);
 }
 
 // P3 whose list of slot 3 lacks slot 6: offsets 0 0 1 1 2 2 2 3, children 3 4 2. Only E tells, which is 3, with 4 used slots.

@@ -1,4 +1,5 @@
-// Lists the pairs below a slot of an accepted image, each as a record in lent room.
+// Lists the pairs below a slot of an accepted image, each as a record in lent room. The labels on the way from slot 1 to the slot
+// are kept at the front of a lent path.
 ghost use mathlib.Core.Path.{_≡_};
 ghost use Prim.Native.Nat.{_<_};
 ghost use lib.ListN.{take};
