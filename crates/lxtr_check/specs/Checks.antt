@@ -1,6 +1,6 @@
 -- Rules 10 to 12 and the check as the code makes them, test by test. Results of calls are variables: each law says which definition
 -- the tests of one return make.
-use Prim.Native.Nat.{ℕ, zero, suc, _+_, _-_, _≤_, _<_}
+use Prim.Native.Nat.{ℕ, zero, suc, _+_, _-_, _^_, _≤_, _<_}
 use mathlib.Core.Path.{_≡_, refl, sym, _∙_}
 use mathlib.Core.Logic.{_≢_}
 use mathlib.Core.List.{List}
@@ -8,6 +8,9 @@ use mathlib.Core.Bool.{Bool, true, false, _||_, not, Bool·beq, or-true, or-fals
 use native.Mathlib.Omega.{arith}
 use native.Mathlib.Decide.{decLt}
 use lib.Dec.{leb, ltb, eqb}
+use mir.Syntax.{w32}
+use mir.Val.{boolByte, Fits}
+use borrow.Author.Needs.{fits-under}
 use borrow.Author.Tests.{lt-ltb, le-ltb, le-leb, lt-leb, eq-eqb, ne-eqb}
 use Rattle.lxtr_spec.specs.Ranges.{anyBelow}
 use Rattle.lxtr_spec.specs.Labels.{lengthCount}
@@ -17,10 +20,15 @@ use Rattle.lxtr_spec.specs.declared.Verdict.{Verdict}
 use Rattle.lxtr_laws.specs.Tests.{outcome, not-is-true, not-is-false}
 use Rattle.lxtr_laws.specs.Ranges.{tests}
 use Rattle.lxtr_laws.specs.Refusing.{first-stands, stands}
+use Rattle.lxtr_laws.specs.Tallies.{CountSoFar, count-small}
 use Rattle.lxtr_laws.specs.Passed.{Whole, Passed, header-passed}
 use Rattle.lxtr_laws.specs.Facts.{SlotRight, unused-parent}
 use Rattle.lxtr_laws.specs.Lists.{in-list, in-children}
 use Rattle.lxtr_laws.specs.Faults.{used-from-2, slots-right, offsets-right, parts-pass}
+
+-- a count of slots fits
+pub count-fits : (f : ℕ → Bool) (m i n : ℕ) (b : List ℕ) (r : Bool) → CountSoFar f i m n → Whole b → m ≡ slotCount b → i < m → Fits w32 (n + boolByte r)
+count-fits f m i n b r s ok e h = fits-under w32 (n + boolByte r) (2 ^ 32) (omega (arith, count-small f m i n s r h, ok .sized .slots-to)) tt
 
 -- a slot from 2 up that is unused has parent 0
 no-parent : (b : List ℕ) (s : ℕ) → 2 ≤ s → isUsedFrom2 b s ≡ false → parent b s ≡ 0

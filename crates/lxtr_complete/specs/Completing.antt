@@ -23,7 +23,7 @@ use Rattle.lxtr_laws.specs.Ranges.{tests}
 use Rattle.lxtr_laws.specs.Facts.{Accepted}
 use Rattle.lxtr_laws.specs.Faults.{accepted}
 use Rattle.lxtr_laws.specs.Stepping.{found-is, found-none}
-use Rattle.lxtr_complete.specs.Overlays.{over}
+use Rattle.lxtr_laws.specs.Overlays.{over}
 use Rattle.lxtr_complete.specs.Writing.{state, after}
 use Rattle.lxtr_complete.specs.Written.{after-count, written-done}
 use Rattle.lxtr_complete.specs.Amounts.{list-few}

@@ -1,6 +1,5 @@
 -- What the code of completion computes, turn by turn. Of these a reader of its contracts, all of private functions, meets the
--- definitions that open Overlays, Writing and Listing, and Progress.
-pub mod Overlays
+-- definitions that open Writing and Listing, and Progress.
 pub mod Writing
 pub mod Written
 pub mod Sums

@@ -13,7 +13,7 @@ use Rattle.lxtr_spec.specs.Words.{beBytes, beWords}
 use Rattle.lxtr_spec.specs.Labels.{maxLabels, Pair}
 use Rattle.lxtr_spec.specs.Completions.{recordOf}
 use Rattle.lxtr_laws.specs.Lengths.{words-length, record-length}
-use Rattle.lxtr_complete.specs.Overlays.{over, over-length, over-over}
+use Rattle.lxtr_laws.specs.Overlays.{over, over-length, over-over}
 
 -- the room, the place of the next record, how many are in, and whether one had no room
 pub record State : Type 0 where

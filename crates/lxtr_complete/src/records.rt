@@ -3,28 +3,18 @@ ghost use mathlib.Core.Path.{_≡_};
 ghost use mathlib.Core.List.{_∷_};
 ghost use Prim.Native.Nat.{_+_, _*_, _≤_};
 ghost use lib.ListN.{length, take};
-ghost use Rattle.lxtr_spec.specs.Words.{beBytes, beWords};
+ghost use Rattle.lxtr_spec.specs.Words.{beWords};
 ghost use Rattle.lxtr_spec.specs.Labels.{maxLabels};
-ghost use Rattle.lxtr_complete.specs.Overlays.{over};
+ghost use Rattle.lxtr_laws.specs.Overlays.{over};
 ghost use Rattle.lxtr_complete.specs.Writing.{put, PutReady};
 ghost use Rattle.lxtr_complete.specs.Progress.{stateAt};
+use lxtr_image::words::put_be32;
 
 // How far a listing is: where in the room the next record goes, how many are in, and whether one had no room.
 pub struct Progress {
     pub at: usize,
     pub count: usize,
     pub stopped: bool,
-}
-
-// A number as four bytes, high end first.
-pub fn put_be32(room: &mut [u8], at: usize, x: u32)
-    requires { ⌜ at + 4 ≤ length (now room) ⌝ }
-    ensures { λ _. ⌜ now (room .exit) ≡ over (now (room .entry)) at (beBytes x) ⌝ }
-{
-    room[at] = (x / 0x100_0000 % 0x100) as u8;
-    room[at + 1] = (x / 0x1_0000 % 0x100) as u8;
-    room[at + 2] = (x / 0x100 % 0x100) as u8;
-    room[at + 3] = (x % 0x100) as u8;
 }
 
 // The first `len` labels of a path.

@@ -1,7 +1,6 @@
 -- The proofs of the demands, one idea a file.
 -- Codes and counts.
 pub mod Codes
-pub mod Counting
 -- Bytes that the check accepts are an image.
 pub mod Lists
 pub mod Kinds
@@ -15,8 +14,6 @@ pub mod SlotsPass
 pub mod ListsPass
 pub mod Images
 -- What is listed, and how many there are.
-pub mod Sorted
-pub mod Runs
 pub mod CodeOrder
 pub mod Listings
 pub mod Counts
@@ -29,3 +26,10 @@ pub mod Probes
 pub mod Prefixes
 pub mod Searches
 pub mod Demand2
+-- The builder.
+pub mod Bytes
+pub mod Sections
+pub mod WorkSlots
+pub mod WorkLists
+pub mod BuiltImages
+pub mod Builder

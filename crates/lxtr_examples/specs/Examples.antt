@@ -1,20 +1,20 @@
--- Document 01's examples P1 to P11, as far as they are images, as one table: the definitions compute to what stands there.
+-- Document 01's examples P1 to P11 as one table: the definitions compute to what stands there. P1 to P3 and P11 are also built.
 -- Not in the document, but beside its examples: the listings of P1 to P3, the last two rows of P5, and the numbers for the host program.
 use mathlib.Core.Path.{refl}
 use mathlib.Core.List.{List, [], _∷_}
 use mathlib.Core.Option.{some, none}
 use mathlib.Core.Bool.{true, false}
 use Rattle.lxtr_spec.specs.Samples.{p1, p2, p3, p7, p8-check, p8-slot, p9-labels, p9-longer, p10, p11}
-use Rattle.lxtr_examples.specs.Rows.{Example, image-length, accepted, refused, exact, prefixes, longest, probe, completes, AllHold, _and_, computing}
+use Rattle.lxtr_examples.specs.Rows.{Example, image-length, accepted, refused, exact, prefixes, longest, probe, completes, builds, AllHold, _and_, computing}
 
 unfoldable pub examples : List Example
 examples =
     -- P1
-    image-length p1 57 ∷ accepted p1 0 ∷ completes p1 [] [] (1 ∷ 0 ∷ 0 ∷ 0 ∷ 0 ∷ [])
+    builds [] 4 p1 ∷ image-length p1 57 ∷ accepted p1 0 ∷ completes p1 [] [] (1 ∷ 0 ∷ 0 ∷ 0 ∷ 0 ∷ [])
     -- P2
-    ∷ image-length p2 73 ∷ accepted p2 1 ∷ completes p2 [] (([], 0) ∷ []) (1 ∷ 0 ∷ 0 ∷ 0 ∷ 1 ∷ 0 ∷ 0 ∷ 0 ∷ 0 ∷ 0 ∷ [])
+    ∷ builds ([] ∷ []) 6 p2 ∷ image-length p2 73 ∷ accepted p2 1 ∷ completes p2 [] (([], 0) ∷ []) (1 ∷ 0 ∷ 0 ∷ 0 ∷ 1 ∷ 0 ∷ 0 ∷ 0 ∷ 0 ∷ 0 ∷ [])
     -- P3
-    ∷ image-length p3 141 ∷ accepted p3 2
+    ∷ builds ((0x6E ∷ []) ∷ (0x6E ∷ 0x61 ∷ []) ∷ []) 14 p3 ∷ image-length p3 141 ∷ accepted p3 2
     ∷ completes p3 [] ((0x6E ∷ [], 0) ∷ (0x6E ∷ 0x61 ∷ [], 1) ∷ [])
     (1 ∷ 0 ∷ 0 ∷ 0 ∷ 2 ∷ 1 ∷ 0 ∷ 0 ∷ 0 ∷ 0x6E ∷ 0 ∷ 0 ∷ 0 ∷ 0 ∷ 2 ∷ 0 ∷ 0 ∷ 0 ∷ 0x6E ∷ 0 ∷ 0 ∷ 0 ∷ 0x61 ∷ 0 ∷ 0 ∷ 0 ∷ 1 ∷ [])
     -- P4
@@ -31,7 +31,7 @@ examples =
     -- P8, P9, P10
     ∷ refused p8-check 10 ∷ refused p8-slot 10 ∷ refused p9-labels 9 ∷ refused p9-longer 6 ∷ refused p10 12
     -- P11
-    ∷ accepted p11 3
+    ∷ builds ((0x61 ∷ []) ∷ (0x62 ∷ []) ∷ (0x62 ∷ 0x62 ∷ []) ∷ []) 16 p11 ∷ accepted p11 3
     ∷ completes p11 [] ((0x62 ∷ [], 1) ∷ (0x62 ∷ 0x62 ∷ [], 2) ∷ (0x61 ∷ [], 0) ∷ [])
     (1 ∷ 0 ∷ 0 ∷ 0 ∷ 3 ∷ 1 ∷ 0 ∷ 0 ∷ 0 ∷ 0x62 ∷ 0 ∷ 0 ∷ 0 ∷ 1 ∷ 2 ∷ 0 ∷ 0 ∷ 0 ∷ 0x62 ∷ 0 ∷ 0 ∷ 0 ∷ 0x62 ∷ 0 ∷ 0 ∷ 0 ∷ 2 ∷ 1 ∷ 0 ∷ 0 ∷ 0 ∷ 0x61 ∷ 0 ∷ 0 ∷ 0 ∷ 0 ∷ [])
     ∷ []
@@ -39,13 +39,13 @@ examples =
 pub examples-hold : AllHold examples
 unfolding examples computing
 examples-hold =
-    refl and (refl, refl) and (refl, refl)
-    and refl and (refl, refl) and (refl, refl)
-    and refl and (refl, refl) and (refl, refl)
+    refl and refl and (refl, refl) and (refl, refl)
+    and refl and refl and (refl, refl) and (refl, refl)
+    and refl and refl and (refl, refl) and (refl, refl)
     and (refl, refl) and (refl, refl) and (refl, refl) and (refl, refl)
     and refl and refl and (refl, refl)
     and (refl, refl) and (refl, refl) and (refl, refl) and (refl, refl)
     and (refl, refl, refl) and (refl, refl)
     and (refl, refl, refl) and (refl, refl, refl) and (refl, refl, refl) and (refl, refl, refl) and (refl, refl, refl)
-    and (refl, refl) and (refl, refl)
+    and refl and (refl, refl) and (refl, refl)
     and tt

@@ -2,4 +2,5 @@
 pub mod Rows
 pub mod Examples
 pub mod Readings
+pub mod Builds
 pub mod Instances

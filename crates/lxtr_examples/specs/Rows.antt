@@ -3,11 +3,12 @@ use Prim.Native.Nat.{ℕ, _+_, _-_, _*_, _^_}
 use mathlib.Core.Path.{_≡_}
 use mathlib.Core.List.{List, [], _∷_, _++_}
 use mathlib.Core.Option.{Option, none}
-use mathlib.Core.Bool.{Bool, false}
+use mathlib.Core.Bool.{Bool, false, cond}
+use lib.Dec.{ltb}
 use lib.ListN.{length, replicate}
 use Rattle.lxtr_spec.specs.Ranges.{anyBelow, countBelow, concatFrom}
 use Rattle.lxtr_spec.specs.Words.{le32, be32, leBytes, beBytes, leWords, beWords}
-use Rattle.lxtr_spec.specs.Labels.{Pair, isScalar, maxLabels, lengthCount, labelsFrom, labelsOf}
+use Rattle.lxtr_spec.specs.Labels.{Pair, isScalar, maxLabels, lengthCount, comesBefore, labelsFrom, labelsOf}
 use Rattle.lxtr_spec.specs.Joining.{slotUnder, codeUnder}
 use Rattle.lxtr_spec.specs.Image.{magic, version, slotCount, childCount, mapLength, baseWord, checkWord, isLeaf, hasLeaf, parent, hasParent, base, valueNumber, slotFrom, codeTo, offset, child, listWidth, mapVersion, labelCount, labelAt, labelOfCode, codeFrom, codeOf}
 use Rattle.lxtr_spec.specs.Refusals.{refuseIf, firstRefusal, unlessRefused, tooShort, byteDiffers, magicDiffers, versionWrong, reservedSet, sizesWrong, lengthWrong, mapWrong, offsetEndsWrong, headerRefusal, sameLabel, labelWrong, labelsWrong, isUsedFrom2, isUsed, ownCode, bothZero, usedSlotWrong, endExists, flagWrong, slotWrong, slotsWrong, offsetFalls, usedCount, entryWrong, codeNotAbove, entryWrongIn, entriesWrong, childless, rootWrong, listsWrong, reaches, unreachable, someUnreachable, bodyRefusal, imageRefusal, isEnd, endCount, checkOf}
@@ -15,7 +16,11 @@ use Rattle.lxtr_spec.specs.Walks.{step, stepBy, walk, walkWithin, leafValue, va
 use Rattle.lxtr_spec.specs.Searches.{queryRefusal, searchRefusal, exactValue, exactOf, lengthMatch, matchAt, matches, prefixMatches, prefixesAnswer, prefixesOf, lastLength, longestLength, longestOf, probeAnswer, probeAt, probeOf}
 use Rattle.lxtr_spec.specs.Completions.{entryPairs, listFrom, pairsAt, pairsBelow, recordOf, recordsOf, fitting, listingOf, listedIn, completionAnswer, written, completionRefusal, completionOf}
 use Rattle.lxtr_spec.specs.HostNumbers.{refusalPart, longerPart, valuePart, exactNumber, probeNumber, checkNumber, longestNumber}
-use Rattle.lxtr_spec.specs.Samples.{imageBytes, p1, p2, nodes3, offsets3, children3, labels3, p3, p7, p8-check, p8-slot, p9-labels, p9-longer, p10, p11}
+use Rattle.lxtr_spec.specs.KeyLists.{listVersion, keyCount, keyLength, keyLabel, nextKey, keyLabels, keyAt, keysFrom, pairsOf, noScalarAt, notAbove, keyRefusal, keysRefusal, listRefusal}
+use Rattle.lxtr_spec.specs.CodeMaps.{insert, insertAll, labelsUsed, contains, frequency, goesBefore, rankIn, ranked, mapOf, codeIn, labelWith}
+use Rattle.lxtr_spec.specs.Placing.{baseAt, checkAt, isTakenFrom2, isFree, fits, firstFitFrom, firstFit, nextCode, childCodes, below, endValue, putChild, putChildren, putParent, settle, intoEach, place}
+use Rattle.lxtr_spec.specs.Builds.{headerBytes, mapBytes, imageBytes, slotsUsed, isChild, childBy, childrenOf, childrenIn, offsetsFrom, imageIn, slotsIn, placedIn, withRoom, fromPlaced, fromLabels, fromKeys, outcomeOf, answered, workAfter, buildOf}
+use Rattle.lxtr_spec.specs.Samples.{p1, p2, nodes3, offsets3, children3, labels3, p3, p7, p8-check, p8-slot, p9-labels, p9-longer, p10, p11, keyRecords, keyList}
 
 -- what is run, and what it gives; a query is given by its labels
 pub data Example : Type 0 where
@@ -39,10 +44,20 @@ pub data Example : Type 0 where
   completion-refused : List ℕ → List ℕ → ℕ → ℕ → Example
   -- image, prefix, pairs, bytes written
   completes : List ℕ → List ℕ → List Pair → List ℕ → Example
+  -- keys, words of work, the image that they give
+  builds : List (List ℕ) → ℕ → List ℕ → Example
+  -- keys, words of work, the length of that image
+  build-length : List (List ℕ) → ℕ → ℕ → Example
+  -- a key list, words of work, bytes of output that the builder refuses, the refusal
+  build-refused : List ℕ → ℕ → ℕ → ℕ → Example
 
 -- n bytes that no listing leaves by chance
 abbrev unwritten : ℕ → List ℕ
 unwritten n = replicate n 0xFF
+
+-- n words that are not zero
+abbrev unset : ℕ → List ℕ
+unset n = replicate n 7
 
 -- what an example says, for the answer, the number for the host program and the room
 abbrev pub Holds : Example → Type 0
@@ -66,6 +81,13 @@ Holds (completion-refused b q n k) = completionOf b q (unwritten n) ≡ record {
 Holds (completes b xs ps bytes) =
     (pairsBelow b xs ≡ ps)
     × (completionOf b (beWords xs) (unwritten (length bytes + 2)) ≡ record { answer = record { refusal = 0; count = length ps; stopped = false }; room = bytes ++ unwritten 2 })
+Holds (builds ks n image) =
+    buildOf (keyList ks) (unset n) (unwritten (length image + 2))
+    ≡ record { answer = record { refusal = 0; length = length image }; output = image ++ unwritten 2; work = replicate n 0 }
+Holds (build-length ks n m) = buildOf (keyList ks) (unset n) (unwritten m) .answer ≡ record { refusal = 0; length = m }
+Holds (build-refused list n m k) =
+    buildOf list (unset n) (unwritten m)
+    ≡ record { answer = record { refusal = k; length = 0 }; output = unwritten m; work = replicate n (cond (ltb n 4) 7 0) }
 
 -- every row of a table holds
 abbrev pub AllHold : List Example → Type 0
@@ -79,5 +101,5 @@ a and b = (a, b)
 
 -- every definition that a row runs: to unfold this name is to unfold them all
 unfoldable pub computing : Unit {0}
-unfolding anyBelow countBelow le32 be32 leBytes beBytes leWords beWords isScalar maxLabels labelsFrom labelsOf slotUnder codeUnder magic version slotCount childCount mapLength baseWord checkWord isLeaf hasLeaf parent hasParent base valueNumber slotFrom codeTo offset child listWidth mapVersion labelCount labelAt labelOfCode codeFrom codeOf refuseIf firstRefusal unlessRefused tooShort byteDiffers magicDiffers versionWrong reservedSet sizesWrong lengthWrong mapWrong offsetEndsWrong headerRefusal sameLabel labelWrong labelsWrong isUsedFrom2 isUsed ownCode bothZero usedSlotWrong endExists flagWrong slotWrong slotsWrong offsetFalls usedCount entryWrong codeNotAbove entryWrongIn entriesWrong childless rootWrong listsWrong reaches unreachable someUnreachable bodyRefusal imageRefusal isEnd endCount checkOf step stepBy walk walkWithin leafValue valueAt valueReached valueOf longerAt queryRefusal searchRefusal exactValue exactOf lengthMatch matchAt matches prefixMatches prefixesAnswer prefixesOf lastLength longestLength longestOf probeAnswer probeAt probeOf concatFrom entryPairs listFrom pairsAt pairsBelow recordOf recordsOf fitting listingOf listedIn completionAnswer written completionRefusal completionOf refusalPart longerPart valuePart exactNumber probeNumber checkNumber longestNumber imageBytes p1 p2 nodes3 offsets3 children3 labels3 p3 p7 p8-check p8-slot p9-labels p9-longer p10 p11
+unfolding anyBelow countBelow le32 be32 leBytes beBytes leWords beWords isScalar maxLabels labelsFrom labelsOf slotUnder codeUnder magic version slotCount childCount mapLength baseWord checkWord isLeaf hasLeaf parent hasParent base valueNumber slotFrom codeTo offset child listWidth mapVersion labelCount labelAt labelOfCode codeFrom codeOf refuseIf firstRefusal unlessRefused tooShort byteDiffers magicDiffers versionWrong reservedSet sizesWrong lengthWrong mapWrong offsetEndsWrong headerRefusal sameLabel labelWrong labelsWrong isUsedFrom2 isUsed ownCode bothZero usedSlotWrong endExists flagWrong slotWrong slotsWrong offsetFalls usedCount entryWrong codeNotAbove entryWrongIn entriesWrong childless rootWrong listsWrong reaches unreachable someUnreachable bodyRefusal imageRefusal isEnd endCount checkOf step stepBy walk walkWithin leafValue valueAt valueReached valueOf longerAt queryRefusal searchRefusal exactValue exactOf lengthMatch matchAt matches prefixMatches prefixesAnswer prefixesOf lastLength longestLength longestOf probeAnswer probeAt probeOf concatFrom entryPairs listFrom pairsAt pairsBelow recordOf recordsOf fitting listingOf listedIn completionAnswer written completionRefusal completionOf refusalPart longerPart valuePart exactNumber probeNumber checkNumber longestNumber comesBefore listVersion keyCount keyLength keyLabel nextKey keyLabels keyAt keysFrom pairsOf noScalarAt notAbove keyRefusal keysRefusal listRefusal insert insertAll labelsUsed contains frequency goesBefore rankIn ranked mapOf codeIn labelWith baseAt checkAt isTakenFrom2 isFree fits firstFitFrom firstFit nextCode childCodes below endValue putChild putChildren putParent settle intoEach place headerBytes mapBytes imageBytes slotsUsed isChild childBy childrenOf childrenIn offsetsFrom imageIn slotsIn placedIn withRoom fromPlaced fromLabels fromKeys outcomeOf answered workAfter buildOf keyRecords keyList p1 p2 nodes3 offsets3 children3 labels3 p3 p7 p8-check p8-slot p9-labels p9-longer p10 p11
 computing = tt

@@ -7,7 +7,8 @@ use crate::sections::HEADER_LENGTH;
 use crate::sections::slot_count;
 use crate::words::le32_at;
 
-const TOP_BIT: u32 = 0x8000_0000;
+// IS_LEAF of a base, HAS_LEAF of a check.
+pub const TOP_BIT: u32 = 0x8000_0000;
 
 pub fn base_word(image: &[u8], s: u32) -> u32
     requires { ⌜ Whole (now image) ⌝ }

@@ -2,7 +2,8 @@
 ghost use mathlib.Core.Path.{_≡_};
 ghost use Prim.Native.Nat.{_+_, _*_, _^_, _≤_};
 ghost use lib.ListN.{length};
-ghost use Rattle.lxtr_spec.specs.Words.{le32, be32};
+ghost use Rattle.lxtr_spec.specs.Words.{le32, be32, leBytes, beBytes};
+ghost use Rattle.lxtr_laws.specs.Overlays.{over};
 
 // The number of four bytes, low end first.
 fn word(a: u8, b: u8, c: u8, d: u8) -> u32
@@ -25,4 +26,26 @@ pub fn be32_at(s: &[u8], at: usize) -> u32
     ensures { λ r. ⌜ r ≡ be32 (now (s .entry)) at ⌝ }
 {
     word(s[at + 3], s[at + 2], s[at + 1], s[at])
+}
+
+// A number as four bytes from a place on, low end first.
+pub fn put_le32(room: &mut [u8], at: usize, x: u32)
+    requires { ⌜ at + 4 ≤ length (now room) ⌝ }
+    ensures { λ _. ⌜ now (room .exit) ≡ over (now (room .entry)) at (leBytes x) ⌝ }
+{
+    room[at] = (x % 0x100) as u8;
+    room[at + 1] = (x / 0x100 % 0x100) as u8;
+    room[at + 2] = (x / 0x1_0000 % 0x100) as u8;
+    room[at + 3] = (x / 0x100_0000 % 0x100) as u8;
+}
+
+// The same, high end first.
+pub fn put_be32(room: &mut [u8], at: usize, x: u32)
+    requires { ⌜ at + 4 ≤ length (now room) ⌝ }
+    ensures { λ _. ⌜ now (room .exit) ≡ over (now (room .entry)) at (beBytes x) ⌝ }
+{
+    room[at] = (x / 0x100_0000 % 0x100) as u8;
+    room[at + 1] = (x / 0x1_0000 % 0x100) as u8;
+    room[at + 2] = (x / 0x100 % 0x100) as u8;
+    room[at + 3] = (x % 0x100) as u8;
 }

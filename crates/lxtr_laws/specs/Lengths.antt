@@ -6,12 +6,11 @@ use mathlib.Core.List.{List, [], _∷_}
 use lib.ListN.{length, length-append}
 use Rattle.lxtr_spec.specs.Words.{beBytes, beWords}
 use Rattle.lxtr_spec.specs.Labels.{Pair}
+use Rattle.lxtr_laws.specs.ByteOrders.{big, words-size}
 use Rattle.lxtr_spec.specs.Completions.{recordOf, recordsOf, listingOf, roomFor}
 
 pub words-length : (l : List ℕ) → length (beWords l) ≡ 4 * length l
-unfolding beWords beBytes
-words-length [] = refl
-words-length (x ∷ l) = let e = words-length l in omega arith
+words-length = words-size big
 
 pub record-length : (p : Pair) → length (recordOf p) ≡ 5 + 4 * length (p .0)
 unfolding recordOf beBytes

@@ -7,15 +7,23 @@ pub mod Joining
 pub mod Order
 pub mod Passed
 pub mod Lists
+pub mod ByteOrders
+pub mod Sorted
+pub mod Counting
+pub mod Members
+pub mod Runs
 pub mod Lengths
+pub mod Overlays
 pub mod Facts
 pub mod Keys
 pub mod Steps
 pub mod Faults
 pub mod Places
 pub mod Entries
--- What the code computes, turn by turn and test by test, as far as several crates need it: a step, the walk of a query, what the
--- searches answer.
+-- What the code computes, turn by turn and test by test, as far as several crates need it: a search for the first number that
+-- passes a test, a count of those that do, a step, the walk of a query, what the searches answer.
+pub mod Scans
+pub mod Tallies
 pub mod Stepping
 pub mod Queries
 pub mod Walking

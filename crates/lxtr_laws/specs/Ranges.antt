@@ -5,7 +5,7 @@ use mathlib.Core.Logic.{_↔_, _⊎_, inl, inr, ⊎-elim}
 use mathlib.Core.Bool.{Bool, true, false, _||_, false≢true}
 use mathlib.Core.List.{List, [], _++_, append-assoc, append-nil}
 use lib.ListN.{length, length-append}
-use native.Mathlib.Nat.{add-zero, not-suc-le-zero}
+use native.Mathlib.Nat.{add-zero, le-refl, not-suc-le-zero}
 use native.Mathlib.Omega.{arith}
 use native.Mathlib.Decide.{decLt}
 use Rattle.lxtr_spec.specs.Ranges.{anyBelow, concatFrom}
@@ -81,3 +81,13 @@ module _ {A : Type 0} (f : ℕ → List A) where
   unfolding concatFrom
   concat-length zero j h = omega arith
   concat-length (suc n) j h = omega (arith, length-append (f j) (concatFrom n (j + 1) f), h j, concat-length n (j + 1) h)
+
+  -- fewer numbers give no more
+  concat-grows : (m k j : ℕ) → length (concatFrom m j f) ≤ length (concatFrom (m + k) j f)
+  concat-grows m zero j = rw (add-zero m) (le-refl (length (concatFrom m j f)))
+  concat-grows m (suc k) j =
+      let e : m + suc k ≡ suc (m + k) = omega arith in
+      rw e (omega (arith, concat-grows m k j, ap length (concat-more (m + k) j), length-append (concatFrom (m + k) j f) (f (j + (m + k)))))
+
+  pub concat-front : (j m n : ℕ) → m ≤ n → length (concatFrom m j f) ≤ length (concatFrom n j f)
+  concat-front j m n h = let e : m + (n - m) ≡ n = omega arith in rw e at (concat-grows m (n - m) j)

@@ -1,17 +1,9 @@
--- The images among document 01's examples.
-use Prim.Native.Nat.{ℕ, _+_, _*_, _/_}
+-- The images among document 01's examples, and key lists by their keys.
+use Prim.Native.Nat.{ℕ}
 use mathlib.Core.List.{List, [], _∷_, _++_}
 use lib.ListN.{length, set}
-use Rattle.lxtr_spec.specs.Words.{beBytes, leWords, beWords}
-use Rattle.lxtr_spec.specs.Image.{magic}
-
--- the bytes of an image with these nodes (base and check of each slot), offsets, children and labels
-unfoldable pub imageBytes : List ℕ → List ℕ → List ℕ → List ℕ → List ℕ
-imageBytes nodes offsets children labels =
-    magic ++ (3 ∷ 0 ∷ 0 ∷ 0 ∷ [])
-    ++ leWords (length nodes / 2 ∷ length children ∷ (5 + 4 * length labels) ∷ 0 ∷ [])
-    ++ leWords nodes ++ leWords offsets ++ leWords children
-    ++ (1 ∷ beBytes (length labels)) ++ beWords labels
+use Rattle.lxtr_spec.specs.Words.{beBytes, beWords}
+use Rattle.lxtr_spec.specs.Builds.{imageBytes}
 
 -- P1: no keys
 unfoldable pub p1 : List ℕ
@@ -64,3 +56,11 @@ unfoldable pub p11 : List ℕ
 p11 =
     imageBytes (0 ∷ 0 ∷ 4 ∷ 0 ∷ 0x80000001 ∷ 5 ∷ 4 ∷ 0x80000005 ∷ 0x80000002 ∷ 3 ∷ 2 ∷ 0x80000001 ∷ 7 ∷ 0x80000001 ∷ 0x80000000 ∷ 6 ∷ [])
     (0 ∷ 0 ∷ 2 ∷ 2 ∷ 3 ∷ 3 ∷ 5 ∷ 6 ∷ 6 ∷ []) (5 ∷ 6 ∷ 4 ∷ 2 ∷ 3 ∷ 7 ∷ []) (0x62 ∷ 0x61 ∷ [])
+
+-- the bytes of a key list with these keys
+unfoldable pub keyRecords : List (List ℕ) → List ℕ
+keyRecords [] = []
+keyRecords (k ∷ ks) = length k ∷ (beWords k ++ keyRecords ks)
+
+unfoldable pub keyList : List (List ℕ) → List ℕ
+keyList ks = 1 ∷ (beBytes (length ks) ++ keyRecords ks)

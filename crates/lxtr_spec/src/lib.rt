@@ -12,6 +12,11 @@ pub const MAX_SLOTS: usize = 65536;
 
 pub const MAX_LISTED: usize = 4095;
 
+// A key list has at most MAX_KEYS keys. The builder tries the bases below BASE_COUNT.
+pub const MAX_KEYS: usize = 32768;
+
+pub const BASE_COUNT: usize = 65536;
+
 // A value number, a code or a slot; or none.
 pub enum Found {
     Is(u32),
@@ -52,4 +57,10 @@ pub struct Completion {
     pub refusal: u8,
     pub count: u32,
     pub stopped: bool,
+}
+
+// The builder: how many bytes the image has.
+pub struct Built {
+    pub refusal: u8,
+    pub length: u32,
 }

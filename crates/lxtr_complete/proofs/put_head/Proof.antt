@@ -3,7 +3,7 @@ use borrow.Author.Needs.{needs}
 use mathlib.Core.Path.{_∙_}
 use native.Mathlib.Omega.{arith}
 use lib.ListN.{length-set}
-use Rattle.lxtr_complete.specs.Overlays.{byte-before}
+use Rattle.lxtr_laws.specs.Overlays.{byte-before}
 use Rattle.lxtr_complete.proofs.put_head.Statement.{statement}
 use Rattle.lxtr_complete.proofs.put_head.Tie as tie
 

@@ -21,7 +21,7 @@ use Rattle.lxtr_demands.specs.Laws.Rooms.{some-front, one-front}
 use Rattle.lxtr_demands.specs.Laws.Completions.{pairs-listed, search-passes, completes}
 
 -- the set of an image is what exact finds
-exact-set : {b : List ℕ} {d : PairSet} → KnownImage b d → exactValue b ≡ d
+pub exact-set : {b : List ℕ} {d : PairSet} → KnownImage b d → exactValue b ≡ d
 unfolding exactValue
 exact-set known = fun-ext (λ xs. value-led known xs (leads known xs))
 

@@ -14,7 +14,7 @@ use Rattle.lxtr_spec.specs.Completions.{pairsBelow}
 use Rattle.lxtr_demands.specs.Demand3.{Demand3}
 use Rattle.lxtr_demands.specs.Laws.Images.{image-passes, image-set, known-image, passed-image}
 use Rattle.lxtr_demands.specs.Laws.CodeOrder.{one-listing}
-use Rattle.lxtr_demands.specs.Laws.Counts.{pairs-counted}
+use Rattle.lxtr_demands.specs.Laws.Counts.{listing-counted}
 use Rattle.lxtr_laws.specs.Lengths.{room-from}
 use Rattle.lxtr_demands.specs.Laws.Rooms.{whole-front}
 use Rattle.lxtr_demands.specs.Laws.Completions.{pairs-listed, completes}
@@ -26,6 +26,6 @@ demand3 b = record {
   one-set = λ d e i j. image-set i ∙ sym (image-set j);
   listing = λ d i. (pairsBelow b [], pairs-listed (known-image i) []);
   one-listing = λ d ps rs. one-listing b d [] ps rs;
-  answer = λ d ps i l. rw (image-passes i, pairs-counted (known-image i) ps l);
+  answer = λ d ps i l. rw (image-passes i, listing-counted (known-image i) ps l);
   completion = λ d ps room i l h. rw (completes i [] refl room ps ps (omega (arith, room-from ps)) l (whole-front (length room) ps h), le-ltb (length ps) (length ps) (le-refl (length ps)));
 }

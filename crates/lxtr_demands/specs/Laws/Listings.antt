@@ -18,8 +18,8 @@ use Rattle.lxtr_laws.specs.Lists.{in-list}
 use Rattle.lxtr_laws.specs.Places.{lists-sorted, code-rises}
 use Rattle.lxtr_demands.specs.Laws.Kinds.{KnownImage}
 use Rattle.lxtr_demands.specs.Laws.Slots.{prefix-slot, ChildIn, longer, ended}
-use Rattle.lxtr_demands.specs.Laws.Sorted.{Sorted, sorted-one, sorted-adjacent}
-use Rattle.lxtr_demands.specs.Laws.Runs.{run-in, run-from, run-sorted}
+use Rattle.lxtr_laws.specs.Sorted.{Sorted, sorted-one, sorted-adjacent}
+use Rattle.lxtr_laws.specs.Runs.{run-in, run-from, run-sorted}
 use Rattle.lxtr_demands.specs.Laws.CodeOrder.{headCode, before-code}
 use Rattle.lxtr_demands.specs.Laws.Entries.{ended-code, ended-pairs, longer-code, longer-pairs, entry-is, ended-place, longer-place}
 

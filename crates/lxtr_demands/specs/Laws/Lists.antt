@@ -15,7 +15,7 @@ use Rattle.lxtr_laws.specs.Ranges.{any-true}
 use Rattle.lxtr_laws.specs.Facts.{UsedFrom2, Accepted}
 use Rattle.lxtr_laws.specs.Faults.{used-from-2}
 use Rattle.lxtr_laws.specs.Entries.{sorted-lists, child-used}
-use Rattle.lxtr_demands.specs.Laws.Counting.{count-of, count-filled}
+use Rattle.lxtr_laws.specs.Counting.{count-of, count-filled}
 use Rattle.lxtr_laws.specs.Places.{list-of-place, children-differ}
 
 module _ {b : List ℕ} (ok : Accepted b) where

@@ -14,7 +14,7 @@ use Rattle.lxtr_spec.specs.Refusals.{isUsedFrom2, usedCount}
 use Rattle.lxtr_spec.specs.Sets.{PairSet, Has, InList}
 use Rattle.lxtr_laws.specs.Facts.{UsedFrom2, EntryRight, ListsRight, ancestor, Reaches, unused-parent}
 use Rattle.lxtr_laws.specs.Faults.{used-from-2}
-use Rattle.lxtr_demands.specs.Laws.Counting.{count-of}
+use Rattle.lxtr_laws.specs.Counting.{count-of}
 use Rattle.lxtr_laws.specs.Keys.{snoc-cons, prefix-key, prefix-on}
 use Rattle.lxtr_laws.specs.Steps.{walk-ancestor}
 use Rattle.lxtr_laws.specs.Lists.{in-list}

@@ -13,8 +13,8 @@ use Rattle.lxtr_spec.specs.Labels.{maxLabels}
 use Rattle.lxtr_spec.specs.Searches.{lengthMatch, matchAt, matches, lastLength}
 use Rattle.lxtr_spec.specs.Sets.{PairSet, Has}
 use Rattle.lxtr_spec.specs.Meaning.{Shorter, PrefixesIn, LongestIn}
-use Rattle.lxtr_demands.specs.Laws.Sorted.{Within, Sorted, sorted-one, sorted-adjacent, adjacent-sorted, one-list}
-use Rattle.lxtr_demands.specs.Laws.Runs.{run-in, run-from, run-sorted}
+use Rattle.lxtr_laws.specs.Sorted.{Within, Sorted, sorted-one, sorted-adjacent, adjacent-sorted, one-list}
+use Rattle.lxtr_laws.specs.Runs.{run-in, run-from, run-sorted}
 
 -- length and value of a prefix
 abbrev Match : Type 0

@@ -5,7 +5,7 @@ use Prim.Native.Nat.{_-_}
 use Rattle.lxtr_spec.specs.Image.{labelCount}
 use Rattle.lxtr_spec.specs.Refusals.{labelWrong, labelsWrong}
 use Rattle.lxtr_check.specs.Chains.{Chained, chained-start}
-use Rattle.lxtr_check.specs.Scans.{NoneSoFar, scan-start, scan-hit, scan-next, scan-end}
+use Rattle.lxtr_laws.specs.Scans.{NoneSoFar, scan-start, scan-hit, scan-next, scan-end}
 use Rattle.lxtr_check.proofs.labels.labels_wrong.Statement.{statement}
 use Rattle.lxtr_check.proofs.labels.labels_wrong.Tie as tie
 

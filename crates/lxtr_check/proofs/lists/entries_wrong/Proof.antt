@@ -5,7 +5,7 @@ use Prim.Native.Nat.{_-_}
 use Rattle.lxtr_spec.specs.Image.{listWidth}
 use Rattle.lxtr_spec.specs.Refusals.{entryWrongIn, entriesWrong}
 use Rattle.lxtr_check.specs.Checks.{entry-place}
-use Rattle.lxtr_check.specs.Scans.{NoneSoFar, scan-start, scan-hit, scan-next, scan-end}
+use Rattle.lxtr_laws.specs.Scans.{NoneSoFar, scan-start, scan-hit, scan-next, scan-end}
 use Rattle.lxtr_check.proofs.lists.entries_wrong.Statement.{statement}
 use Rattle.lxtr_check.proofs.lists.entries_wrong.Tie as tie
 

@@ -4,7 +4,8 @@ use mathlib.Core.Path.{_≡_}
 use Prim.Native.Nat.{_-_}
 use Rattle.lxtr_spec.specs.Image.{slotCount}
 use Rattle.lxtr_spec.specs.Refusals.{isUsedFrom2, usedCount}
-use Rattle.lxtr_check.specs.Scans.{CountSoFar, count-start, count-next, count-fits, count-end}
+use Rattle.lxtr_laws.specs.Tallies.{CountSoFar, count-start, count-next, count-end}
+use Rattle.lxtr_check.specs.Checks.{count-fits}
 use Rattle.lxtr_check.proofs.lists.used_count.Statement.{statement}
 use Rattle.lxtr_check.proofs.lists.used_count.Tie as tie
 

@@ -4,7 +4,7 @@ use mathlib.Core.Path.{_≡_}
 use Prim.Native.Nat.{_-_}
 use Rattle.lxtr_spec.specs.Image.{slotCount}
 use Rattle.lxtr_spec.specs.Refusals.{unreachable, someUnreachable}
-use Rattle.lxtr_check.specs.Scans.{NoneSoFar, scan-start, scan-hit, scan-next, scan-end}
+use Rattle.lxtr_laws.specs.Scans.{NoneSoFar, scan-start, scan-hit, scan-next, scan-end}
 use Rattle.lxtr_check.proofs.reach.some_unreachable.Statement.{statement}
 use Rattle.lxtr_check.proofs.reach.some_unreachable.Tie as tie
 

@@ -4,7 +4,7 @@ use mathlib.Core.Path.{_∙_}
 use native.Mathlib.Omega.{arith}
 use lib.ListN.{length-set}
 use Rattle.lxtr_spec.specs.Labels.{maxLabels}
-use Rattle.lxtr_complete.specs.Overlays.{byte-before}
+use Rattle.lxtr_laws.specs.Overlays.{byte-before}
 use Rattle.lxtr_complete.proofs.records.put_key.Statement.{statement}
 use Rattle.lxtr_complete.proofs.records.put_key.Tie as tie
 

@@ -4,12 +4,14 @@ use Prim.Native.Nat.{_-_, _≤_}
 use mathlib.Core.Path.{_≡_}
 use native.Mathlib.Omega.{arith}
 use lib.ListN.{length}
-use Rattle.lxtr_complete.specs.Overlays.{LabelsIn, labels-start, labels-next, labels-end}
+use Rattle.lxtr_spec.specs.Words.{beWords}
+use Rattle.lxtr_laws.specs.ByteOrders.{big}
+use Rattle.lxtr_laws.specs.Overlays.{WordsIn, words-start, words-next, words-end}
 use Rattle.lxtr_complete.proofs.records.put_labels.Statement.{statement}
 use Rattle.lxtr_complete.proofs.records.put_labels.Tie as tie
 
 abbrev Inv-loop : tie.InvT-loop
-Inv-loop path len room₀ at i₀ room i = (i ≤ len) × (length room ≡ length room₀) × LabelsIn room₀ path at i room
+Inv-loop path len room₀ at i₀ room i = (i ≤ len) × (length room ≡ length room₀) × WordsIn beWords room₀ path at i room
 
 abbrev μ-loop : tie.MeasureT-loop
 μ-loop path len room₀ at i₀ room i = len - i
@@ -20,7 +22,7 @@ put-labels-spec =
     (tie.spec
     Inv-loop
     μ-loop
-    (λ c. (search needs, search needs, search labels-start))
+    (λ c. (search needs, search needs, search (words-start big)))
     (λ c. omega arith)
     (λ c. omega arith)
     (λ c. omega arith)
@@ -28,6 +30,6 @@ put-labels-spec =
     (λ c κs. omega arith)
     (λ c. omega arith)
     (λ c. omega arith)
-    (λ c. (omega arith, search needs, search labels-next))
+    (λ c. (omega arith, search needs, search (words-next big)))
     (λ c. search needs)
-    (λ c. search labels-end))
+    (λ c. search (words-end big)))

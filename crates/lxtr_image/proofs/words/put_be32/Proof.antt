@@ -3,9 +3,9 @@ use borrow.Author.Needs.{needs}
 use native.Mathlib.Omega.{arith}
 use lib.ListN.{length-set}
 use Rattle.lxtr_spec.specs.Words.{beBytes}
-use Rattle.lxtr_complete.specs.Overlays.{number-put}
-use Rattle.lxtr_complete.proofs.records.put_be32.Statement.{statement}
-use Rattle.lxtr_complete.proofs.records.put_be32.Tie as tie
+use Rattle.lxtr_laws.specs.Overlays.{four-put}
+use Rattle.lxtr_image.proofs.words.put_be32.Statement.{statement}
+use Rattle.lxtr_image.proofs.words.put_be32.Tie as tie
 
 pub put-be32-spec : {M : Type 1} → statement M
 unfolding beBytes
@@ -24,4 +24,4 @@ put-be32-spec =
     (λ c. search needs)
     (λ c. simp length-set (omega arith))
     (λ c. search needs)
-    (λ c. number-put _ _ _ (c .pre)))
+    (λ c. four-put _ _ _ _ _ _ (c .pre)))

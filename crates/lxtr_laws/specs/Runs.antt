@@ -1,13 +1,18 @@
 -- What the numbers j, j + 1, .. give, one after the other: the members come from there, and they are in order where each part is.
 -- The pairs below a slot are such a run over the places of its list, the prefixes of a query one over their lengths.
-use Prim.Native.Nat.{ℕ, zero, suc, _+_, _≤_, _<_}
+use Prim.Native.Nat.{ℕ, zero, suc, _+_, _-_, _≤_, _<_}
 use native.Mathlib.Decide.{decLt}
 use native.Mathlib.Omega.{arith}
-use mathlib.Core.Path.{_≡_}
+use native.Mathlib.Nat.{add-zero}
+use lib.ListN.{getD, length, length-append, List·getD-append}
+use lib.Seq.{getD-append-add}
+use mathlib.Core.Path.{_≡_, sym, ap, _∙_}
 use mathlib.Core.Logic.{_⊎_, inl, inr}
-use mathlib.Core.List.{List, _++_, List·Memᴰ, List·Memᴰ·not-nil, Memᴰ·append-left, Memᴰ·append-right, List·Memᴰ·append-cases}
+use mathlib.Core.List.{List, _++_, append-assoc, List·Memᴰ, List·Memᴰ·not-nil, Memᴰ·append-left, Memᴰ·append-right, List·Memᴰ·append-cases}
+use native.Mathlib.Numerals.{add-one}
 use Rattle.lxtr_spec.specs.Ranges.{concatFrom}
-use Rattle.lxtr_demands.specs.Laws.Sorted.{Sorted, sorted-append}
+use Rattle.lxtr_laws.specs.Ranges.{concat-more}
+use Rattle.lxtr_laws.specs.Sorted.{Sorted, sorted-append}
 
 module _ {A : Type 0} where
   module _ (f : ℕ → List A) where
@@ -39,3 +44,27 @@ module _ {A : Type 0} where
         sorted-append R (f j) (concatFrom w (j + 1) f) (s j (omega arith) (omega arith))
         (run-sorted R w (j + 1) (λ i l u. s i (omega arith) (omega arith)) (λ i k p r l u v. h i k p r (omega arith) u (omega arith)))
         (λ p m r n. let q = run-from w (j + 1) r n in h j (q .0) p r (omega arith) (omega arith) (omega arith) m (q .3))
+
+    -- a run's front part and what follows it
+    run-split : (k m j : ℕ) → concatFrom (k + m) j f ≡ concatFrom k j f ++ concatFrom m (j + k) f
+    unfolding concatFrom
+    run-split zero m j = let e : 0 + m ≡ m = omega arith in rw (e, add-zero)
+    run-split (suc k) m j =
+        let e : suc k + m ≡ suc (k + m) = omega arith in
+        let g : j + suc k ≡ j + 1 + k = omega arith in
+        rw (e, g, concatFrom, run-split k m (j + 1)) (sym (append-assoc (f j) (concatFrom k (j + 1) f) (concatFrom m (j + 1 + k) f)))
+
+    -- an entry of part k stands as far behind the parts before it as in its part
+    pub run-entry : (n j k i : ℕ) (z : A) → k < n → i < length (f (j + k)) → getD (concatFrom n j f) (length (concatFrom k j f) + i) z ≡ getD (f (j + k)) i z
+    unfolding concatFrom
+    run-entry n j k i z h l =
+        let e : n ≡ k + suc (n - suc k) = omega arith in
+        let rest : List A = concatFrom (n - suc k) (j + k + 1) f in
+        ap (λ (m : ℕ). getD (concatFrom m j f) (length (concatFrom k j f) + i) z) e
+        ∙ ap (λ (m : List A). getD m (length (concatFrom k j f) + i) z) (run-split k (suc (n - suc k)) j)
+        ∙ getD-append-add (concatFrom k j f) (f (j + k) ++ rest) i z
+        ∙ List·getD-append (f (j + k)) rest z i l
+
+    -- one part more adds its entries
+    pub run-more : (k j : ℕ) → length (concatFrom (k + 1) j f) ≡ length (concatFrom k j f) + length (f (j + k))
+    run-more k j = rw (add-one k) (ap (λ (l : List A). length l) (concat-more f k j) ∙ length-append (concatFrom k j f) (f (j + k)))

@@ -1,0 +1,89 @@
+-- Demand 2 for the builder: from a sorted key list the image built is the one the first-fit rule gives, and it reads back as
+-- those keys, numbered from 0. Only the statements; the proofs are in Laws/Builder.antt.
+use Prim.Native.Nat.{ℕ, suc, _*_, _^_, _≤_, _<_}
+use mathlib.Core.Path.{_≡_}
+use mathlib.Core.Logic.{_↔_, _⊎_, _≢_}
+use mathlib.Core.List.{List, [], _++_, List·Memᴰ}
+use mathlib.Core.Option.{some, none}
+use mathlib.Core.Bool.{false}
+use lib.ListN.{length, take, drop}
+use Rattle.lxtr_spec.specs.Words.{beWords}
+use Rattle.lxtr_spec.specs.Labels.{maxSlots, labelsOf, Pair}
+use Rattle.lxtr_spec.specs.Joining.{slotUnder}
+use Rattle.lxtr_spec.specs.Refusals.{checkOf}
+use Rattle.lxtr_spec.specs.Searches.{exactOf}
+use Rattle.lxtr_spec.specs.Completions.{listingOf, roomFor, completionOf}
+use Rattle.lxtr_spec.specs.KeyLists.{keyCount, pairsOf}
+use Rattle.lxtr_spec.specs.CodeMaps.{frequency, mapOf}
+use Rattle.lxtr_spec.specs.Placing.{baseAt, checkAt, baseCount, firstFit, childCodes, place}
+use Rattle.lxtr_spec.specs.Builds.{buildOf}
+use Rattle.lxtr_spec.specs.Sets.{PairSet, Has, ImageOf}
+use Rattle.lxtr_spec.specs.Meaning.{Ordered, Lists}
+
+-- the set has these pairs, and none besides
+pub record HasExactly (d : PairSet) (ps : List Pair) : Type 0 where
+  pub each : (k : List ℕ) (v : ℕ) → List·Memᴰ (k, v) ps → Has d k v
+  pub only : (k : List ℕ) (v : ℕ) → Has d k v → List·Memᴰ (k, v) ps
+
+-- what holds of the image that a key list gives
+pub record ReadsBack (keys image : List ℕ) : Type 0 where
+  -- It is an image of exactly the set "key i has value i".
+  pub set : PairSet
+  pub set-is : HasExactly set (pairsOf keys)
+  pub image-of : ImageOf image set
+  -- So the check accepts it with that count,
+  pub checked : checkOf image ≡ record { refusal = 0; pairs = keyCount keys }
+  -- exact finds each key's number
+  pub exact : (k : List ℕ) (v : ℕ) → List·Memᴰ (k, v) (pairsOf keys) → exactOf image (beWords k) ≡ record { refusal = 0; value = some v }
+  -- and nothing else,
+  pub exact-only : (q : List ℕ) (v : ℕ) → exactOf image q .value ≡ some v → List·Memᴰ (labelsOf q, v) (pairsOf keys)
+  -- and completing the empty prefix with room enough lists the keys, in code order.
+  pub listing : (ps : List Pair) × Lists image set [] ps
+  pub completion : (ps : List Pair) (room : List ℕ) → Lists image set [] ps → roomFor ps ≤ length room
+      → completionOf image [] room ≡ record { answer = record { refusal = 0; count = keyCount keys; stopped = false }; room = listingOf ps ++ drop (roomFor ps) room }
+
+-- wherever building refuses nothing; the image are the bytes that it wrote at the output's front
+abbrev pub Demand2Builder : Type 0
+Demand2Builder = (keys work out : List ℕ) → buildOf keys work out .answer .refusal ≡ 0
+    → ReadsBack keys (take (buildOf keys work out .answer .length) (buildOf keys work out .output))
+
+-- First fit. Every child's slot under the base b, where the children have the codes cs, is free and lies in 2 to S-1:
+pub record Fits (S : ℕ) (w cs : List ℕ) (b : ℕ) : Type 0 where
+  pub base-in : b < baseCount
+  pub slot-from : (c : ℕ) → List·Memᴰ c cs → 2 ≤ slotUnder b c
+  pub slot-to : (c : ℕ) → List·Memᴰ c cs → slotUnder b c < S
+  pub slot-free : (c : ℕ) → List·Memᴰ c cs → checkAt w (slotUnder b c) ≡ 0
+
+-- no smaller base fits
+pub record SmallestFit (S : ℕ) (w cs : List ℕ) (b : ℕ) : Type 0 where
+  pub fits : Fits S w cs b
+  pub smallest : (a : ℕ) → Fits S w cs a → b ≤ a
+
+-- What placing is called with for slot p: p is one of the S slots that the work w has room for, it is slot 1 or has a parent, and it has
+-- no HAS_LEAF yet.
+pub record MayBePlaced (S : ℕ) (w : List ℕ) (p : ℕ) : Type 0 where
+  pub room : 2 * S ≤ length w
+  pub slots : S ≤ maxSlots
+  pub slot : (1 ≤ p) × (p < S)
+  pub taken : (p ≡ 1) ⊎ (checkAt w p ≢ 0)
+  pub no-flag : checkAt w p < 2 ^ 31
+
+pub record FirstFit : Type 0 where
+  -- Each base is the smallest that fits: placing slot p, whose group is g, leaves it with the smallest base that fitted its children
+  -- in the work w before. (It places the slots below p by calling itself, so this is said of each slot.)
+  pub placed : (S : ℕ) (code label : ℕ → ℕ) (k p : ℕ) (g : List Pair) (w u : List ℕ) → MayBePlaced S w p
+      → place S code label (suc k) p g w ≡ some u → SmallestFit S w (childCodes code g []) (baseAt u p)
+  -- That is what firstFit finds, and it finds none only where none fits.
+  pub found : (S : ℕ) (w cs : List ℕ) (b : ℕ) → firstFit S w cs ≡ some b → SmallestFit S w cs b
+  pub none-fits : (S : ℕ) (w cs : List ℕ) (b : ℕ) → firstFit S w cs ≡ none → Fits S w cs b → ⊥
+
+-- The code map lists the labels that the keys use, and no other; higher frequency gets the smaller code, equal ones go by smaller label.
+abbrev pub FrequencyBefore : List Pair → ℕ → ℕ → Type 0
+FrequencyBefore ps x y = (frequency ps y < frequency ps x) ⊎ ((frequency ps x ≡ frequency ps y) × (x < y))
+
+pub record ByFrequency (ps : List Pair) : Type 0 where
+  pub used : (x : ℕ) → List·Memᴰ x (mapOf ps) ↔ ((p : Pair) × List·Memᴰ p ps × List·Memᴰ x (p .0))
+  pub ordered : Ordered (FrequencyBefore ps) (mapOf ps)
+
+abbrev pub CodesByFrequency : Type 0
+CodesByFrequency = (ps : List Pair) → ByFrequency ps

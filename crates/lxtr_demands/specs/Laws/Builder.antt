@@ -1,0 +1,166 @@
+-- Demand 2 for the builder, from its parts: what is built is an image of the set of the key list's pairs, and of an image the searches,
+-- the check and completion answer what its set says.
+use Prim.Native.Nat.{ℕ, _*_, zero, suc, _%_, _^_, _≤_, _<_}
+use native.Mathlib.Omega.{arith}
+use mathlib.Core.Path.{_≡_, refl, sym, ap, _∙_, subst}
+use mathlib.Core.Logic.{_≢_, ⊎-elim}
+use mathlib.Core.List.{List, [], _∷_, append-nil, List·Memᴰ, List·Memᴰ·head, List·Memᴰ·tail}
+use mathlib.Core.Option.{some, none}
+use mathlib.Core.Bool.{true, true≢false}
+use lib.ListN.{getD, length, take}
+use lib.Seq.{ext-getD}
+use Rattle.lxtr_spec.specs.Words.{be32, beWords}
+use Rattle.lxtr_spec.specs.Labels.{labelsOf, comesBefore, Pair}
+use Rattle.lxtr_spec.specs.Refusals.{unlessRefused, endCount, checkOf}
+use Rattle.lxtr_spec.specs.Searches.{searchRefusal, exactValue, exactOf}
+use Rattle.lxtr_spec.specs.KeyLists.{keysAt, keyCount, pairsOf}
+use Rattle.lxtr_spec.specs.Placing.{baseAt, baseCount, isFree, fits, childCodes}
+use Rattle.lxtr_spec.specs.CodeMaps.{frequency, goesBefore, mapOf}
+use Rattle.lxtr_spec.specs.Builds.{buildOf}
+use Rattle.lxtr_spec.specs.Sets.{PairSet, Has, ImageOf}
+use Rattle.lxtr_spec.specs.Meaning.{Lists}
+use Rattle.lxtr_laws.specs.Ranges.{tests}
+use Rattle.lxtr_laws.specs.Members.{member-at}
+use Rattle.lxtr_laws.specs.Lengths.{words-length}
+use Rattle.lxtr_laws.specs.Order.{before-self}
+use Rattle.lxtr_laws.specs.Steps.{none-not-some}
+use Rattle.lxtr_laws.specs.Queries.{label-count, label-read}
+use Rattle.lxtr_laws.specs.Sorted.{Sorted, sorted-weaker, ordered-weaker}
+use Rattle.lxtr_build_laws.specs.KeyLists.{Ascending, KeysRight}
+use Rattle.lxtr_build_laws.specs.Keys.{keys-length}
+use Rattle.lxtr_build_laws.specs.Passing.{list-passed}
+use Rattle.lxtr_build_laws.specs.Maps.{before-is, map-members, map-ordered}
+use Rattle.lxtr_build_laws.specs.FirstFit.{Smallest, first-fit-some, first-fit-none, fits-free}
+use Rattle.lxtr_build_laws.specs.Nodes.{Plain}
+use Rattle.lxtr_build_laws.specs.Trees.{placed-slot, placed-node}
+use Rattle.lxtr_build_laws.specs.PairSets.{setOf, set-members}
+use Rattle.lxtr_build_laws.specs.Outcomes.{image-built}
+use Rattle.lxtr_demands.specs.Builder.{ReadsBack, Demand2Builder, Fits, SmallestFit, MayBePlaced, FirstFit, FrequencyBefore, CodesByFrequency}
+use Rattle.lxtr_demands.specs.Laws.Images.{image-passes, known-image}
+use Rattle.lxtr_demands.specs.Laws.Counts.{pairs-counted, listing-counted}
+use Rattle.lxtr_demands.specs.Laws.Demand3.{demand3}
+use Rattle.lxtr_demands.specs.Laws.Demand2.{exact-set, demand2}
+use Rattle.lxtr_demands.specs.Laws.Bytes.{be-words}
+use Rattle.lxtr_demands.specs.Laws.BuiltImages.{scalar-small, image-of-work}
+
+-- the labels of a query are those that it was written for
+labels-back : (k : List ℕ) → ((i : ℕ) → i < length k → getD k i 0 < 2 ^ 32) → labelsOf (beWords k) ≡ k
+labels-back k small =
+    let count : length (labelsOf (beWords k)) ≡ length k = omega (arith, label-count (beWords k), words-length k) in
+    ext-getD 0 (labelsOf (beWords k)) k count (λ i h.
+    let l : i < length k = omega arith in
+    sym (label-read (beWords k) i h (getD k i 0) (sym (be-words k [] i l (small i l)) ∙ ap (λ (b : List ℕ). be32 b (4 * i)) (append-nil (beWords k)))))
+
+-- keys in ascending order differ
+ascending-sorted : (ps : List Pair) → Ascending ps → Sorted (λ p r. comesBefore (p .0) (r .0) ≡ true) ps
+unfolding Ascending Sorted
+ascending-sorted [] a = tt
+ascending-sorted (p ∷ ps) a = (a .0, ascending-sorted ps (a .1))
+
+keys-differ : (ps : List Pair) → Ascending ps → Sorted (λ p r. p .0 ≢ r .0) ps
+keys-differ ps a = sorted-weaker (λ p r. comesBefore (p .0) (r .0) ≡ true) (λ p r. p .0 ≢ r .0)
+    (λ p r h e. before-self (r .0) (ap (λ (k : List ℕ). comesBefore k (r .0)) (sym e) ∙ h)) ps (ascending-sorted ps a)
+
+module _ (keys image : List ℕ) (right : KeysRight (pairsOf keys)) (image-of : ImageOf image (setOf (pairsOf keys))) where
+  abbrev ps : List Pair
+  ps = pairsOf keys
+
+  abbrev d : PairSet
+  d = setOf (pairsOf keys)
+
+  member : (k : List ℕ) (v : ℕ) → Has d k v → List·Memᴰ (k, v) ps
+  member k v = set-members ps (right .ascending) k v .0
+
+  has : (k : List ℕ) (v : ℕ) → List·Memᴰ (k, v) ps → Has d k v
+  has k v = set-members ps (right .ascending) k v .1
+
+  keys-count : length ps ≡ keyCount keys
+  unfolding pairsOf
+  keys-count = keys-length keys (keyCount keys) 0 keysAt
+
+  ends-count : endCount image ≡ keyCount keys
+  ends-count = pairs-counted (known-image image-of) ps (keys-differ ps (right .ascending)) member has ∙ keys-count
+
+  listing-count : (rs : List Pair) → Lists image d [] rs → length rs ≡ keyCount keys
+  listing-count rs l = sym (listing-counted (known-image image-of) rs l) ∙ ends-count
+
+  exact-finds : (k : List ℕ) (v : ℕ) → List·Memᴰ (k, v) ps → exactOf image (beWords k) ≡ record { refusal = 0; value = some v }
+  exact-finds k v m =
+      let small : (i : ℕ) → i < length k → getD k i 0 < 2 ^ 32 = λ i h. scalar-small (getD k i 0) (right .scalar (k, v) m (getD k i 0) (member-at 0 k i h)) in
+      let whole : length (beWords k) % 4 ≡ 0 = omega (arith, words-length k) in
+      demand2 image d (beWords k) image-of whole .searched .exact ∙ rw (labels-back k small, has k v m)
+
+  exact-only : (q : List ℕ) (v : ℕ) → exactOf image q .value ≡ some v → List·Memᴰ (labelsOf q, v) ps
+  unfolding exactOf unlessRefused
+  exact-only q v e = go (searchRefusal image q) e
+    where
+      go : (n : ℕ) → unlessRefused n (exactValue image (labelsOf q)) none ≡ some v → List·Memᴰ (labelsOf q, v) ps
+      go zero e = member (labelsOf q) v (ap (λ (f : PairSet). f (labelsOf q)) (sym (exact-set (known-image image-of))) ∙ e)
+      go (suc n) e = absurd (none-not-some e)
+
+  reads-back : ReadsBack keys image
+  unfolding checkOf unlessRefused
+  reads-back = record {
+    set = d;
+    set-is = record { each = has; only = member };
+    image-of = image-of;
+    checked = rw (image-passes image-of, ends-count);
+    exact = exact-finds;
+    exact-only = exact-only;
+    listing = demand3 image .listing d image-of;
+    completion = λ rs room l h. demand3 image .completion d rs room image-of l h ∙ rw (listing-count rs l);
+  }
+
+pub demand2-builder : Demand2Builder
+demand2-builder keys work out e =
+    let b = image-built keys work out e in
+    let right : KeysRight (pairsOf keys) = list-passed keys (b .right) .right in
+    let image : List ℕ = take (buildOf keys work out .answer .length) (buildOf keys work out .output) in
+    reads-back keys image right (subst (λ (i : List ℕ). ImageOf i (setOf (pairsOf keys))) (sym (b .is)) (image-of-work (length work) (pairsOf keys) (b .work) (b .words) right (b .few) (b .placed)))
+
+-- ---- first fit
+
+fits-of : (S : ℕ) (w cs : List ℕ) (b : ℕ) → b < baseCount → fits S w cs b ≡ true → Fits S w cs b
+fits-of S w cs b h e = let free = fits-free S w cs b e in record { base-in = h; slot-from = λ c m. free c m .0 .from; slot-to = λ c m. free c m .1; slot-free = λ c m. free c m .0 .zero-check }
+
+of-fits : (S : ℕ) (w cs : List ℕ) (b : ℕ) → Fits S w cs b → fits S w cs b ≡ true
+unfolding fits isFree
+of-fits S w [] b f = refl
+of-fits S w (c ∷ cs) b f = simp tests (
+  (((f .slot-from c (List·Memᴰ·head refl)), f .slot-to c (List·Memᴰ·head refl)), f .slot-free c (List·Memᴰ·head refl)),
+  of-fits S w cs b (record { base-in = f .base-in; slot-from = λ e m. f .slot-from e (List·Memᴰ·tail m); slot-to = λ e m. f .slot-to e (List·Memᴰ·tail m); slot-free = λ e m. f .slot-free e (List·Memᴰ·tail m) }),
+)
+
+-- a base that fits, before which none does
+smallest-fit : (S : ℕ) (w cs : List ℕ) (b : ℕ) → b < baseCount → Smallest S w cs 0 b → SmallestFit S w cs b
+smallest-fit S w cs b h s = record {
+  fits = fits-of S w cs b h (s .fit);
+  smallest = λ a f. not-below a (λ l. true≢false (sym (of-fits S w cs a f) ∙ s .none-before a (omega arith) l));
+}
+  where
+    not-below : (a : ℕ) → (a < b → ⊥) → b ≤ a
+    not-below a h = omega arith
+
+plain-of : (S : ℕ) (w : List ℕ) (p : ℕ) → MayBePlaced S w p → Plain S w p
+plain-of S w p m = record {
+  ready = record { room = m .room; slots = m .slots; from = m .slot .0; to = m .slot .1; taken = λ f. ⊎-elim (λ e. omega (arith, f .from, e)) (λ n. n (f .zero-check)) (m .taken) };
+  plain = m .no-flag;
+}
+
+pub first-fit : FirstFit
+first-fit = record {
+  placed = λ S code label k p g w u m e.
+      let n = placed-slot S code label k p g w u e in
+      let base : baseAt u p ≡ n .base = placed-node S code label k p g w u (plain-of S w p m) n .base-is in
+      subst (SmallestFit S w (childCodes code g [])) (sym base) (smallest-fit S w (childCodes code g []) (n .base) (n .settled .small) (n .settled .smallest));
+  found = λ S w cs b e. let r = first-fit-some S w cs b e in smallest-fit S w cs b (r .1) (r .0);
+  none-fits = λ S w cs b e f. true≢false (sym (of-fits S w cs b f) ∙ first-fit-none S w cs e b (f .base-in));
+}
+
+-- ---- the code map
+
+pub codes-by-frequency : CodesByFrequency
+codes-by-frequency ps = record {
+  used = map-members ps;
+  ordered = ordered-weaker (λ x y. goesBefore (frequency ps) x y ≡ true) (FrequencyBefore ps) (before-is (frequency ps)) (mapOf ps) (map-ordered ps);
+}

@@ -1,0 +1,41 @@
+-- Document 01's example "Run", then the builder's refusals and the order of two that hold at once.
+-- (Not 20 and 22, which take long to compute: the program `build_examples` runs them.)
+use Prim.Native.Nat.{ℕ}
+use mathlib.Core.Path.{refl}
+use mathlib.Core.List.{List, [], _∷_, _++_}
+use lib.ListN.{replicate}
+use Rattle.lxtr_spec.specs.Samples.{keyList}
+use Rattle.lxtr_examples.specs.Rows.{Example, build-length, build-refused, AllHold, _and_, computing}
+
+unfoldable pub run-examples : List Example
+run-examples =
+    -- Run: 64 labels in a key build; length 65 gives 17. Label D7FF builds, D800 gives 18. Equal keys: 19.
+    build-length (replicate 64 0x61 ∷ []) 300 1101 ∷ build-refused (keyList (replicate 65 0x61 ∷ [])) 300 0 17
+    ∷ build-length ((0xD7FF ∷ []) ∷ []) 8 93 ∷ build-refused (keyList ((0xD800 ∷ []) ∷ [])) 8 93 18
+    ∷ build-refused (keyList ((0x61 ∷ []) ∷ (0x61 ∷ []) ∷ [])) 8 93 19
+    ∷ []
+
+pub run-examples-hold : AllHold run-examples
+unfolding run-examples computing
+run-examples-hold = refl and refl and refl and refl and refl and tt
+
+unfoldable pub build-refusals : List Example
+build-refusals =
+    -- 21 before 15: fewer than 4 words; 15: under 5 bytes, version 2; 16
+    build-refused [] 3 10 21 ∷ build-refused (1 ∷ 0 ∷ 0 ∷ 0 ∷ []) 4 10 15 ∷ build-refused (2 ∷ 0 ∷ 0 ∷ 0 ∷ 0 ∷ []) 4 10 15
+    ∷ build-refused (1 ∷ 0 ∷ 0 ∷ 0x80 ∷ 1 ∷ []) 4 10 16
+    -- 15: no length byte, labels cut short, bytes left over; 17 before labels cut short
+    ∷ build-refused (1 ∷ 0 ∷ 0 ∷ 0 ∷ 1 ∷ []) 4 10 15 ∷ build-refused (1 ∷ 0 ∷ 0 ∷ 0 ∷ 1 ∷ 1 ∷ 0 ∷ 0 ∷ 0 ∷ []) 4 10 15
+    ∷ build-refused (1 ∷ 0 ∷ 0 ∷ 0 ∷ 0 ∷ 0 ∷ []) 4 10 15 ∷ build-refused (1 ∷ 0 ∷ 0 ∷ 0 ∷ 1 ∷ 65 ∷ []) 4 10 17
+    -- 18 before 19 in a key; 19 of a key before 18 of the next; 19 before bytes left over: falling keys, a prefix second
+    ∷ build-refused (keyList ((0x61 ∷ []) ∷ (0x60 ∷ 0x110000 ∷ []) ∷ [])) 8 10 18
+    ∷ build-refused (keyList ((0x61 ∷ []) ∷ (0x60 ∷ []) ∷ (0xDFFF ∷ []) ∷ [])) 8 10 19
+    ∷ build-refused (keyList ((0x61 ∷ 0x61 ∷ []) ∷ (0x61 ∷ []) ∷ []) ++ (0 ∷ [])) 8 10 19
+    -- 23: one byte too little
+    ∷ build-refused (keyList ((0xD7FF ∷ []) ∷ [])) 8 92 23
+    ∷ []
+
+pub build-refusals-hold : AllHold build-refusals
+unfolding build-refusals computing
+build-refusals-hold =
+    refl and refl and refl and refl and refl and refl and refl and refl and refl and refl and refl and refl and tt
