@@ -1,0 +1,132 @@
+-- Answers of the builder's functions, beside the outcome that they stand for.
+use Prim.Native.Nat.{ℕ, zero, suc, _≤_, _<_}
+use native.Mathlib.Nat.{zero-add}
+use native.Mathlib.Omega.{arith}
+use mathlib.Core.Path.{_≡_, refl, sym, ap, _∙_}
+use mathlib.Core.List.{List, _++_}
+use mathlib.Core.Option.{some}
+use mathlib.Core.Bool.{Bool, true, false, not}
+use lib.ListN.{length, take, drop, replicate}
+use borrow.Author.Tests.{lt-ltb, le-ltb}
+use Rattle.lxtr_spec.specs.Labels.{maxListed, Pair}
+use Rattle.lxtr_spec.specs.KeyLists.{listRefusal, pairsOf}
+use Rattle.lxtr_spec.specs.CodeMaps.{mapOf}
+use Rattle.lxtr_spec.specs.Builds.{imageIn, slotsUsed, slotsIn, placedIn, Outcome, refuses, withRoom, fromPlaced, fromLabels, fromKeys, outcomeOf, answered, workAfter, buildOf}
+use Rattle.lxtr_spec.specs.declared.Built.{Built}
+use Rattle.lxtr_laws.specs.Tests.{not-is-true, not-is-false}
+use Rattle.lxtr_laws.specs.Overlays.{over}
+use Rattle.lxtr_build_laws.specs.KeyLists.{KeysPassed}
+use Rattle.lxtr_build_laws.specs.Passing.{list-passed}
+use Rattle.lxtr_build_laws.specs.CodeTables.{picked, CodeTables, Mapped}
+use Rattle.lxtr_build_laws.specs.Tables.{picked-length}
+use Rattle.lxtr_build_laws.specs.Work.{placedAs}
+use Rattle.lxtr_build_laws.specs.Counts.{children-count}
+use Rattle.lxtr_build.specs.Writing.{ImageReady}
+
+-- The answer, and the output before and after it, are those of an outcome. What the work holds is not said.
+pub record Answers (o : Outcome) (out : List ℕ) (r : Built) (out′ : List ℕ) : Type 0 where
+  pub any-work : (work : List ℕ) → record { answer = r; output = out′; work = work } ≡ answered o out work
+
+-- what comes of these keys with this work and this output: from refusal 20 on, and from refusal 22 on
+abbrev pub labelsOutcome : List ℕ → List ℕ → List ℕ → Outcome
+labelsOutcome keys work out = fromLabels (length work) (length out) (pairsOf keys) (mapOf (pairsOf keys))
+
+abbrev pub placedOutcome : List ℕ → List ℕ → List ℕ → Outcome
+placedOutcome keys work out =
+    fromPlaced (slotsIn (length work)) (length out) (mapOf (pairsOf keys)) (placedIn (length work) (pairsOf keys) (mapOf (pairsOf keys)))
+
+answers-refusal : (k : ℕ) (out : List ℕ) → Answers (refuses k) out (record { refusal = k; length = 0 }) out
+unfolding answered
+answers-refusal k out = record { any-work = λ work. refl }
+
+-- 23, or the image at the output's front
+module _ (image out : List ℕ) where
+  pub image-short : length out < length image → Answers (withRoom (length out) image) out (record { refusal = 23; length = 0 }) out
+  unfolding withRoom
+  image-short h = rw (lt-ltb (length out) (length image) h, withRoom) (answers-refusal 23 out)
+
+  pub image-fits : (out′ : List ℕ) (size : ℕ) → length image ≡ size → size ≤ length out → out′ ≡ over out 0 image → Answers (withRoom (length out) image) out (record { refusal = 0; length = size }) out′
+  unfolding withRoom answered over
+  image-fits out′ size is h q =
+      let front : out′ ≡ image ++ drop (length image) out = q ∙ ap (λ (k : ℕ). image ++ drop k out) (zero-add (length image)) in
+      rw (le-ltb (length out) (length image) (omega arith), withRoom, front, ← is) (record { any-work = λ work. refl })
+
+-- the image of all used slots
+pub image-answered : (w m : List ℕ) (S N R : ℕ) (out : List ℕ) (r : Built) (out′ : List ℕ) → S ≡ slotsIn (length w) → N ≡ slotsUsed w S
+    → Answers (withRoom R (imageIn w N m)) out r out′ → Answers (withRoom R (imageIn w (slotsUsed w (slotsIn (length w))) m)) out r out′
+image-answered w m S N R out r out′ is used a = rw (← is, ← used) a
+
+-- the tables have a place for each label of the map
+map-size : {ps : List Pair} {labels codes order : List ℕ} → CodeTables ps labels codes order → length order ≡ length (mapOf ps)
+map-size {ps} {labels} {codes} {order} tables = sym (picked-length labels order) ∙ ap length (tables .map-is)
+
+-- 22, or the image of the work: r is whether every slot has a base
+module _ (keys w : List ℕ) (W R : ℕ) (out : List ℕ) (r : Bool) (placed : placedAs r w ≡ placedIn W (pairsOf keys) (mapOf (pairsOf keys))) where
+  abbrev outcome : Outcome
+  outcome = fromPlaced (slotsIn W) R (mapOf (pairsOf keys)) (placedIn W (pairsOf keys) (mapOf (pairsOf keys)))
+
+  pub placed-not : not r ≡ true → Answers outcome out (record { refusal = 22; length = 0 }) out
+  unfolding placedAs fromPlaced
+  placed-not h = rw (← placed, not-is-true r .0 h) (answers-refusal 22 out)
+
+  module _ (h : not r ≡ false) (labels codes order : List ℕ) (tables : CodeTables (pairsOf keys) labels codes order) (same : length w ≡ W) where
+    found : placedIn W (pairsOf keys) (mapOf (pairsOf keys)) ≡ some w
+    unfolding placedAs
+    found = sym (rw (not-is-false r .0 h) at placed)
+
+    pub image-ready : KeysPassed keys → 4 ≤ W → ImageReady w labels order
+    image-ready passed room = record {
+      room = omega arith;
+      map-order = record { few = tables .few; size = tables .order-size; inside = tables .order-in };
+      children = rw (same, map-size tables) (children-count W (pairsOf keys) w room (passed .right) found);
+    }
+
+    pub placed-built : (b : Built) (out′ : List ℕ) → Answers (withRoom R (imageIn w (slotsUsed w (slotsIn (length w))) (picked labels order))) out b out′ → Answers outcome out b out′
+    unfolding fromPlaced
+    placed-built b out′ a = rw found (rw (same, tables .map-is) at a)
+
+-- 20, or what the tables of the code map give: r is the number of its labels, or more than it may list
+module _ (keys labels codes order : List ℕ) (r : ℕ) (m : Mapped (pairsOf keys) labels codes order r) (W R : ℕ) (out : List ℕ) where
+  pub labels-many : maxListed < r → Answers (fromLabels W R (pairsOf keys) (mapOf (pairsOf keys))) out (record { refusal = 20; length = 0 }) out
+  unfolding fromLabels
+  labels-many h = rw (lt-ltb maxListed (length (mapOf (pairsOf keys))) (m .over h), fromLabels) (answers-refusal 20 out)
+
+  module _ (h : r ≤ maxListed) where
+    pub tables-made : CodeTables (pairsOf keys) (take r labels) (take r codes) (take r order)
+    tables-made = m .within h
+
+    pub labels-built : (b : Built) (out′ : List ℕ) → Answers (fromPlaced (slotsIn W) R (mapOf (pairsOf keys)) (placedIn W (pairsOf keys) (mapOf (pairsOf keys)))) out b out′
+        → Answers (fromLabels W R (pairsOf keys) (mapOf (pairsOf keys))) out b out′
+    unfolding fromLabels
+    labels-built b out′ a =
+        let few : length (mapOf (pairsOf keys)) ≤ maxListed = omega (arith, map-size tables-made, tables-made .few, tables-made .order-size) in
+        rw (le-ltb maxListed (length (mapOf (pairsOf keys))) few, fromLabels) a
+
+-- 15 to 19, or what the keys give: r is the refusal of the list
+module _ (keys : List ℕ) (r : ℕ) (is : r ≡ listRefusal keys) where
+  pub keys-pass : r ≡ 0 → KeysPassed keys
+  keys-pass z = list-passed keys (sym is ∙ z)
+
+  module _ (W R : ℕ) (out : List ℕ) where
+    pub keys-refused : (r ≡ 0 → ⊥) → Answers (fromKeys W R keys) out (record { refusal = r; length = 0 }) out
+    unfolding fromKeys
+    keys-refused h = go r is h
+      where
+        go : (n : ℕ) → n ≡ listRefusal keys → (n ≡ 0 → ⊥) → Answers (fromKeys W R keys) out (record { refusal = n; length = 0 }) out
+        go zero e h = absurd (h refl)
+        go (suc n) e h = rw (← e, fromKeys) (answers-refusal (suc n) out)
+
+    pub keys-built : (b : Built) (out′ : List ℕ) → r ≡ 0 → Answers (fromLabels W R (pairsOf keys) (mapOf (pairsOf keys))) out b out′ → Answers (fromKeys W R keys) out b out′
+    unfolding fromKeys
+    keys-built b out′ z a = rw (sym is ∙ z, fromKeys) a
+
+-- 21, or what the whole list gives with cleared work, which is cleared again
+module _ (keys work out : List ℕ) where
+  pub work-small : length work < 4 → record { answer = record { refusal = 21; length = 0 }; output = out; work = work } ≡ buildOf keys work out
+  unfolding buildOf outcomeOf answered workAfter
+  work-small h = rw (lt-ltb (length work) 4 h, outcomeOf)
+
+  pub all-built : (b : Built) (out′ work₁ work₂ work₃ : List ℕ) → 4 ≤ length work → length work₁ ≡ length work → Answers (fromKeys (length work₁) (length out) keys) out b out′
+      → length work₂ ≡ length work₁ → work₃ ≡ replicate (length work₂) 0 → record { answer = b; output = out′; work = work₃ } ≡ buildOf keys work out
+  unfolding buildOf outcomeOf workAfter
+  all-built b out′ work₁ work₂ work₃ h l a m z = rw (le-ltb (length work) 4 h, outcomeOf, ← l, z, m) (a .any-work (replicate (length work₁) 0))

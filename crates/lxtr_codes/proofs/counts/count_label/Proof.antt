@@ -1,0 +1,18 @@
+-- A label that the key has counted is left; the count of another goes up by one, and stays small.
+use borrow.Author.Needs.{needs}
+use Rattle.lxtr_codes.specs.Counting.{count-again, count-fits, count-new}
+use Rattle.lxtr_codes.proofs.counts.count_label.Statement.{statement}
+use Rattle.lxtr_codes.proofs.counts.count_label.Tie as tie
+
+pub count-label-spec : {M : Type 1} → statement M
+count-label-spec =
+    tie.close
+    (tie.spec
+    (λ c. search count-again)
+    (λ c κs. search needs)
+    (λ c. search needs)
+    (λ c. search needs)
+    (λ c. search count-fits)
+    (λ c. search needs)
+    (λ c. search needs)
+    (λ c. search count-new))

@@ -1,0 +1,83 @@
+// How often each label is used: the number of keys that contain it.
+ghost use mathlib.Core.Path.{_≡_};
+ghost use mathlib.Core.List.{[]};
+ghost use Prim.Native.Nat.{_+_, _≤_, _<_};
+ghost use lib.ListN.{length, take, getD, replicate};
+ghost use Rattle.lxtr_spec.specs.KeyLists.{maxKeys, keyLength, keyLabel, keyAt, pairsOf};
+ghost use Rattle.lxtr_spec.specs.CodeMaps.{contains, labelsUsed};
+ghost use Rattle.lxtr_build_laws.specs.KeyLists.{WholeKey, KeysPassed};
+ghost use Rattle.lxtr_build_laws.specs.CodeTables.{Rising, placeIn};
+ghost use Rattle.lxtr_codes.specs.Counting.{Countable, countOnce, KeyCounted, Counted};
+use crate::rising::find;
+use lxtr_keys::KEYS_AT;
+use lxtr_keys::key_count;
+use lxtr_keys::key_label;
+use lxtr_keys::key_length;
+use lxtr_keys::next_key;
+
+// Label j of the key stands at an earlier place of it too.
+fn stands_earlier(keys: &[u8], at: usize, j: usize) -> bool
+    requires { ⌜ WholeKey (now keys) at ⌝ }
+    requires { ⌜ j < keyLength (now keys) at ⌝ }
+    ensures { λ r. ⌜ r ≡ contains (take j (keyAt (now (keys .entry)) at)) (keyLabel (now (keys .entry)) at j) ⌝ }
+{
+    let label = key_label(keys, at, j);
+    let mut k: usize = 0;
+    while k < j {
+        if key_label(keys, at, k) == label {
+            return true;
+        }
+        k += 1;
+    }
+    false
+}
+
+// Counts one label of a key. A key counts a label once: not again where it stands earlier in that key.
+fn count_label(labels: &[u32], counts: &mut [u32], label: u32, again: bool)
+    requires { ⌜ Rising (now labels) ⌝ }
+    requires { ⌜ placeIn (now labels) label < length (now counts) ⌝ }
+    requires { ⌜ getD (now counts) (placeIn (now labels) label) 0 ≤ maxKeys + 1 ⌝ }
+    ensures { λ _. ⌜ now (counts .exit) ≡ countOnce (now (labels .entry)) again label (now (counts .entry)) ⌝ }
+{
+    if again {
+        return;
+    }
+    let i = find(labels, label);
+    counts[i] += 1;
+}
+
+// Counts the labels of the key at a place.
+fn count_key(keys: &[u8], at: usize, labels: &[u32], counts: &mut [u32])
+    requires { ⌜ WholeKey (now keys) at ⌝ }
+    requires { ⌜ Rising (now labels) ⌝ }
+    requires { ⌜ Countable (keyAt (now keys) at) (now labels) (now counts) ⌝ }
+    ensures { λ _. ⌜ KeyCounted (keyAt (now (keys .entry)) at) (now (labels .entry)) (now (counts .entry)) (now (counts .exit)) ⌝ }
+{
+    let len = key_length(keys, at);
+    let mut j: usize = 0;
+    while j < len {
+        let again = stands_earlier(keys, at, j);
+        let label = key_label(keys, at, j);
+        count_label(labels, counts, label, again);
+        j += 1;
+    }
+}
+
+// The frequency of each label, where all counts are zero at first.
+pub fn count_keys(keys: &[u8], labels: &[u32], counts: &mut [u32])
+    requires { ⌜ KeysPassed (now keys) ⌝ }
+    requires { ⌜ now labels ≡ labelsUsed (pairsOf (now keys)) [] ⌝ }
+    requires { ⌜ length (now labels) ≤ length (now counts) ⌝ }
+    requires { ⌜ now counts ≡ replicate (length (now counts)) 0 ⌝ }
+    ensures { λ _. ⌜ length (now (counts .exit)) ≡ length (now (counts .entry)) ⌝ }
+    ensures { λ _. ⌜ Counted (pairsOf (now (keys .entry))) (now (labels .entry)) (now (counts .exit)) ⌝ }
+{
+    let count = key_count(keys);
+    let mut at: usize = KEYS_AT;
+    let mut i: usize = 0;
+    while i < count {
+        count_key(keys, at, labels, counts);
+        at = next_key(keys, at);
+        i += 1;
+    }
+}

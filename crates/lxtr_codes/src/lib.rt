@@ -1,0 +1,53 @@
+// The code map of a key list, as three tables: the labels that the keys use, rising; the code of each; and their places in the order
+// of the codes.
+mod labels; // the labels
+mod counts; // how many keys contain each
+mod ranks; // their order and their codes
+pub mod rising; // rising numbers: the labels here, and the codes of a slot's children in the crate above
+
+ghost use mathlib.Core.Path.{_≡_};
+ghost use mathlib.Core.List.{[]};
+ghost use Prim.Native.Nat.{_≤_};
+ghost use lib.ListN.{length};
+ghost use Rattle.lxtr_spec.specs.Labels.{maxListed};
+ghost use Rattle.lxtr_spec.specs.KeyLists.{pairsOf};
+ghost use Rattle.lxtr_spec.specs.CodeMaps.{labelsUsed};
+ghost use Rattle.lxtr_build_laws.specs.KeyLists.{KeysPassed};
+ghost use Rattle.lxtr_build_laws.specs.CodeTables.{tableSize, Mapped};
+ghost use Rattle.lxtr_codes.specs.Mapping.{CodedFront};
+use crate::counts::count_keys;
+use crate::labels::gather_labels;
+use crate::ranks::assign;
+use crate::ranks::rank;
+use lxtr_spec::MAX_LISTED;
+
+// How many places each table has: one more than a code map may list labels, so that too many are seen.
+pub const TABLE_SIZE: usize = MAX_LISTED + 1;
+
+// The codes of the labels, and their order, by falling number of keys that contain them.
+fn code_labels(keys: &[u8], labels: &[u32], codes: &mut [u32], order: &mut [u32])
+    requires { ⌜ KeysPassed (now keys) ⌝ }
+    requires { ⌜ now labels ≡ labelsUsed (pairsOf (now keys)) [] ⌝ }
+    requires { ⌜ (length (now labels) ≤ maxListed) × (length (now codes) ≡ tableSize) × (length (now order) ≡ tableSize) ⌝ }
+    ensures { λ _. ⌜ CodedFront (pairsOf (now (keys .entry))) (now (labels .entry)) (now (codes .exit)) (now (order .exit)) ⌝ }
+{
+    let n = labels.len();
+    let mut counts = [0u32; TABLE_SIZE];
+    count_keys(keys, labels, &mut counts);
+    rank(&counts[..n], order);
+    assign(&order[..n], codes);
+}
+
+// Fills the tables; answers how many labels there are, which are the places filled, or more than MAX_LISTED for too many.
+pub fn code_map(keys: &[u8], labels: &mut [u32], codes: &mut [u32], order: &mut [u32]) -> usize
+    requires { ⌜ KeysPassed (now keys) ⌝ }
+    requires { ⌜ (length (now labels) ≡ tableSize) × (length (now codes) ≡ tableSize) × (length (now order) ≡ tableSize) ⌝ }
+    ensures { λ r. ⌜ Mapped (pairsOf (now (keys .entry))) (now (labels .exit)) (now (codes .exit)) (now (order .exit)) r ⌝ }
+{
+    let n = gather_labels(keys, labels);
+    if MAX_LISTED < n {
+        return n;
+    }
+    code_labels(keys, &labels[..n], codes, order);
+    n
+}

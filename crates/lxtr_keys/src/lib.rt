@@ -1,0 +1,63 @@
+// Key lists: reading the keys, and the first of refusals 15 to 19. A key list is a version byte 1, a count in four bytes, then per
+// key a length byte and its labels, four bytes each, big-endian. A key is known by the place of its length byte.
+mod refusals; // 15 and 17 to 19, key by key
+
+ghost use mathlib.Core.Path.{_≡_};
+ghost use Prim.Native.Nat.{_+_, _*_, _≤_, _<_};
+ghost use lib.ListN.{length};
+ghost use Rattle.lxtr_spec.specs.KeyLists.{keysAt, keyCount, keyLength, keyLabel, nextKey, listRefusal};
+use crate::refusals::keys_refusal;
+use lxtr_image::words::be32_at;
+use lxtr_spec::MAX_KEYS;
+
+// Where the first key starts.
+pub const KEYS_AT: usize = 5;
+
+// The number of keys that the list announces.
+pub fn key_count(keys: &[u8]) -> usize
+    requires { ⌜ keysAt ≤ length (now keys) ⌝ }
+    ensures { λ r. ⌜ r ≡ keyCount (now (keys .entry)) ⌝ }
+{
+    be32_at(keys, 1) as usize
+}
+
+// The number of labels of the key at a place.
+pub fn key_length(keys: &[u8], at: usize) -> usize
+    requires { ⌜ at < length (now keys) ⌝ }
+    ensures { λ r. ⌜ r ≡ keyLength (now (keys .entry)) at ⌝ }
+{
+    keys[at] as usize
+}
+
+// Label j of the key at a place.
+pub fn key_label(keys: &[u8], at: usize, j: usize) -> u32
+    requires { ⌜ at + 5 + 4 * j ≤ length (now keys) ⌝ }
+    ensures { λ r. ⌜ r ≡ keyLabel (now (keys .entry)) at j ⌝ }
+{
+    be32_at(keys, at + 1 + 4 * j)
+}
+
+// Where the key after the one at a place starts.
+pub fn next_key(keys: &[u8], at: usize) -> usize
+    requires { ⌜ at < length (now keys) ⌝ }
+    ensures { λ r. ⌜ r ≡ nextKey (now (keys .entry)) at ⌝ }
+{
+    at + 1 + 4 * key_length(keys, at)
+}
+
+// The first of 15 to 19 that holds of a key list, or 0.
+pub fn list_refusal(keys: &[u8]) -> u8
+    ensures { λ r. ⌜ r ≡ listRefusal (now (keys .entry)) ⌝ }
+{
+    if keys.len() < KEYS_AT {
+        return 15;
+    }
+    if keys[0] != 1 {
+        return 15;
+    }
+    let count = key_count(keys);
+    if MAX_KEYS < count {
+        return 16;
+    }
+    keys_refusal(keys, count)
+}

@@ -1,0 +1,16 @@
+-- From the first key that goes on by x the run of those is all of them.
+use borrow.Author.Needs.{needs}
+use Rattle.lxtr_spec.specs.Labels.{maxLabels}
+use Rattle.lxtr_place.specs.GroupLoops.{below-group, below-is}
+use Rattle.lxtr_place.proofs.groups.below.Statement.{statement}
+use Rattle.lxtr_place.proofs.groups.below.Tie as tie
+
+pub below-spec : {M : Type 1} → statement M
+unfolding maxLabels
+below-spec =
+    tie.close
+    (tie.spec
+    (λ c κs. search needs)
+    (λ c κs. search needs)
+    (λ c. search needs)
+    (λ c. (search below-group, (search needs, search below-is))))

@@ -1,0 +1,15 @@
+-- A key that is used up goes on by no label; another by its next one.
+use borrow.Author.Needs.{needs}
+use Rattle.lxtr_build_laws.specs.Keys.{label-inside}
+use Rattle.lxtr_place.specs.GroupLoops.{goes-end, goes-on}
+use Rattle.lxtr_place.proofs.groups.goes_by.Statement.{statement}
+use Rattle.lxtr_place.proofs.groups.goes_by.Tie as tie
+
+pub goes-by-spec : {M : Type 1} → statement M
+goes-by-spec =
+    tie.close
+    (tie.spec
+    (λ c κs. search needs)
+    (λ c. search goes-end)
+    (λ c κs. search label-inside)
+    (λ c. search goes-on))

@@ -1,0 +1,18 @@
+-- All keys are slot 1's group; on their labels the tables agree with the code map.
+use borrow.Author.Needs.{needs}
+use native.Mathlib.Omega.{arith}
+use Rattle.lxtr_spec.specs.Labels.{maxLabels}
+use Rattle.lxtr_place.specs.AllKeys.{all-placeable, root-fresh, all-placed}
+use Rattle.lxtr_place.proofs.place_all.Statement.{statement}
+use Rattle.lxtr_place.proofs.place_all.Tie as tie
+
+pub place-all-spec : {M : Type 1} → statement M
+unfolding maxLabels
+place-all-spec =
+    tie.close
+    (tie.spec
+    (λ c κs. search needs)
+    (λ c κs. search needs)
+    (λ c κs. (search needs, (search all-placeable, (search root-fresh, omega arith))))
+    (λ c. search needs)
+    (λ c. search all-placed))

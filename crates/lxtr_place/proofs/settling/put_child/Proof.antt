@@ -1,0 +1,30 @@
+-- By the code: a child's check alone, or the base of an end too.
+use borrow.Author.Needs.{needs}
+use native.Mathlib.Omega.{arith}
+use lib.ListN.{length-set}
+use Rattle.lxtr_place.specs.Settling.{child-put, end-put}
+use Rattle.lxtr_place.proofs.settling.put_child.Statement.{statement}
+use Rattle.lxtr_place.proofs.settling.put_child.Tie as tie
+
+pub put-child-spec : {M : Type 1} → statement M
+put-child-spec =
+    tie.close
+    (tie.spec
+    (λ c κs. search needs)
+    (λ c. search needs)
+    (λ c. search needs)
+    (λ c. search needs)
+    (λ c. search needs)
+    (λ c. search needs)
+    (λ c. search needs)
+    (λ c. search child-put)
+    (λ c. search needs)
+    (λ c. search needs)
+    (λ c. search needs)
+    (λ c. search needs)
+    (λ c. search needs)
+    (λ c. search needs)
+    (λ c. search needs)
+    (λ c. simp length-set (omega arith))
+    (λ c. search needs)
+    (λ c. search end-put))

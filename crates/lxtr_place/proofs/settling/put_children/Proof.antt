@@ -1,0 +1,29 @@
+-- The words of the first j children are put; the others make the whole.
+use borrow.Author.Needs.{needs}
+use Prim.Native.Nat.{_-_}
+use lib.ListN.{length}
+use Rattle.lxtr_place.specs.Settling.{PutSoFar, put-start, put-inside, put-next, put-end}
+use Rattle.lxtr_place.proofs.settling.put_children.Statement.{statement}
+use Rattle.lxtr_place.proofs.settling.put_children.Tie as tie
+
+abbrev Inv-loop : tie.InvT-loop
+Inv-loop work₀ p value base codes j₀ work j = PutSoFar p value base codes work₀ work j
+
+abbrev μ-loop : tie.MeasureT-loop
+μ-loop work₀ p value base codes j₀ work j = length codes - j
+
+pub put-children-spec : {M : Type 1} → statement M
+put-children-spec =
+    tie.close
+    (tie.spec
+    Inv-loop
+    μ-loop
+    (λ c. search put-start)
+    (λ c. search needs)
+    (λ c. search needs)
+    (λ c κs. (search put-inside, search needs))
+    (λ c. search needs)
+    (λ c. search needs)
+    (λ c. search put-next)
+    (λ c. search needs)
+    (λ c. search put-end))

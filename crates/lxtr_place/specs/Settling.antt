@@ -1,0 +1,117 @@
+-- The words that settling a slot puts.
+use Prim.Native.Nat.{ℕ, zero, suc, _+_, _*_, _^_, _%_, _≤_, _<_}
+use mathlib.Core.Path.{_≡_, refl, sym, ap, _∙_}
+use mathlib.Core.Logic.{_≢_}
+use mathlib.Core.List.{List, [], _∷_}
+use mathlib.Core.Option.{Option, some, none}
+use native.Mathlib.Omega.{arith}
+use native.Mathlib.Numerals.{add-one}
+use lib.ListN.{getD, length, set, drop, drop-of-length-le}
+use lib.Seq.{drop-cons}
+use Rattle.lxtr_spec.specs.Joining.{slotUnder}
+use Rattle.lxtr_spec.specs.Answers.{found}
+use Rattle.lxtr_spec.specs.Placing.{checkAt, firstFit, putChild, putChildren, putParent, settle}
+use Rattle.lxtr_spec.specs.declared.Found.{Found}
+use Rattle.lxtr_spec.specs.declared.Found.the-variants.{Is, Nothing}
+use Rattle.lxtr_laws.specs.Members.{member-at}
+use Rattle.lxtr_build_laws.specs.Slots.{check-of-base}
+use Rattle.lxtr_build_laws.specs.FirstFit.{first-fit-some, fits-free}
+use Rattle.lxtr_build_laws.specs.Settling.{put-child-size}
+
+-- the words of each child's slot under the base lie in a work of so many words
+pub record ChildrenInside (words b : ℕ) (cs : List ℕ) : Type 0 where
+  pub each : (j : ℕ) → j < length cs → 2 * slotUnder b (getD cs j 0) + 1 < words
+
+-- the base that the code answers, and the work then
+unfoldable pub settledAs : Found → List ℕ → Option (ℕ × List ℕ)
+settledAs (Is b) w = some (b, w)
+settledAs Nothing w = none
+
+-- ---- a slot's own words
+
+module _ (p b : ℕ) (w : List ℕ) where
+  pub parent-none : (cs : List ℕ) → length cs ≡ 0 → set w (2 * p) b ≡ putParent p b cs w
+  unfolding putParent
+  parent-none [] h = refl
+  parent-none (c ∷ cs) h = absurd (omega arith)
+
+  pub parent-plain : (cs : List ℕ) → length cs ≢ 0 → getD cs 0 0 ≢ 0 → set w (2 * p) b ≡ putParent p b cs w
+  unfolding putParent
+  parent-plain [] h n = absurd (h refl)
+  parent-plain (zero ∷ cs) h n = absurd (n refl)
+  parent-plain (suc c ∷ cs) h n = refl
+
+  pub parent-of-end : (cs : List ℕ) → length cs ≢ 0 → getD cs 0 0 ≡ 0
+      → set (set w (2 * p) b) (2 * p + 1) (2147483648 + getD (set w (2 * p) b) (2 * p + 1) 0 % 2147483648) ≡ putParent p b cs w
+  unfolding putParent checkAt
+  parent-of-end [] h z = absurd (h refl)
+  parent-of-end (zero ∷ cs) h z = ap (λ (x : ℕ). set (set w (2 * p) b) (2 * p + 1) (2 ^ 31 + x % 2 ^ 31)) (check-of-base w p p b)
+  parent-of-end (suc c ∷ cs) h z = absurd (omega arith)
+
+-- ---- one child's words
+
+module _ (p v b : ℕ) (w : List ℕ) (t : ℕ) where
+  pub child-put : (c : ℕ) → t ≡ slotUnder b c → c ≢ 0 → set w (2 * t + 1) p ≡ putChild p v b c w
+  unfolding putChild
+  child-put zero e n = absurd (n refl)
+  child-put (suc c) e n = rw e refl
+
+  pub end-put : (c : ℕ) → t ≡ slotUnder b c → c ≡ 0 → set (set w (2 * t) (2147483648 + v)) (2 * t + 1) p ≡ putChild p v b c w
+  unfolding putChild
+  end-put zero e z = rw e refl
+  end-put (suc c) e z = absurd (omega arith)
+
+-- ---- all children's words: the first j are put
+
+pub record PutSoFar (p v b : ℕ) (cs w₀ w : List ℕ) (j : ℕ) : Type 0 where
+  pub to : j ≤ length cs
+  pub size : length w ≡ length w₀
+  pub rest : putChildren p v b cs w₀ ≡ putChildren p v b (drop j cs) w
+
+module _ (p v b : ℕ) (cs w₀ : List ℕ) where
+  pub put-start : PutSoFar p v b cs w₀ w₀ 0
+  put-start = record { to = omega arith; size = refl; rest = refl }
+
+  module _ (w : List ℕ) (j : ℕ) (s : PutSoFar p v b cs w₀ w j) where
+    pub put-inside : ChildrenInside (length w₀) b cs → j < length cs → 2 * slotUnder b (getD cs j 0) + 1 < length w
+    put-inside i h = omega (arith, i .each j h, s .size)
+
+    pub put-next : (u : List ℕ) → j < length cs → u ≡ putChild p v b (getD cs j 0) w → PutSoFar p v b cs w₀ u (j + 1)
+    unfolding putChildren
+    put-next u h e = record {
+      to = omega arith;
+      size = ap length e ∙ put-child-size p v b (getD cs j 0) w ∙ s .size;
+      rest = s .rest ∙ rw (drop-cons cs j 0 h, e, add-one) refl;
+    }
+
+    pub put-end : length cs ≤ j → w ≡ putChildren p v b cs w₀
+    unfolding putChildren
+    put-end h = sym (s .rest ∙ ap (λ (l : List ℕ). putChildren p v b l w) (drop-of-length-le cs {i = j} h))
+
+-- ---- settling
+
+module _ (S p v : ℕ) (cs w : List ℕ) (r : Found) (answer : found r ≡ firstFit S w cs) where
+  pub settle-none : r ≡ Nothing → (u : List ℕ) → settledAs Nothing u ≡ settle S p v cs w
+  unfolding settledAs settle
+  settle-none e u =
+      let z : firstFit S w cs ≡ none = sym answer ∙ ap found e in
+      sym (ap (λ (o : Option ℕ). elim o as (λ _. Option (ℕ × List ℕ)) [ none ↦ none | some b ↦ some (b, putChildren p v b cs (putParent p b cs w)) ]) z)
+
+  module _ (b : ℕ) (is : r ≡ Is b) where
+    fit : firstFit S w cs ≡ some b
+    fit = sym answer ∙ ap found is
+
+    pub settle-inside : (x : List ℕ) → 2 * S ≤ length w → length x ≡ length w → ChildrenInside (length x) b cs
+    settle-inside x room size = record {
+      each = λ j h. omega (arith, fits-free S w cs b (first-fit-some S w cs b fit .0 .fit) (getD cs j 0) (member-at 0 cs j h) .1);
+    }
+
+    pub settle-base : (x u : List ℕ) → x ≡ putParent p b cs w → u ≡ putChildren p v b cs x → settledAs (Is b) u ≡ settle S p v cs w
+    unfolding settledAs settle
+    settle-base x u e q =
+        ap (λ (y : List ℕ). some (b, y)) (q ∙ ap (putChildren p v b cs) e)
+        ∙ sym (ap (λ (o : Option ℕ). elim o as (λ _. Option (ℕ × List ℕ)) [ none ↦ none | some b ↦ some (b, putChildren p v b cs (putParent p b cs w)) ]) fit)
+
+-- with the codes and the value under other names
+pub settle-as : (S p v v′ : ℕ) (cs cs′ w : List ℕ) (o : Option (ℕ × List ℕ)) → v ≡ v′ → cs ≡ cs′ → o ≡ settle S p v cs w → o ≡ settle S p v′ cs′ w
+settle-as S p v v′ cs cs′ w o e f q = q ∙ rw (e, f) refl

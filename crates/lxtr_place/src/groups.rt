@@ -1,0 +1,110 @@
+// Groups of keys. The keys that pass a slot stand together in the key list, since that ascends.
+ghost use mathlib.Core.Path.{_≡_};
+ghost use Prim.Native.Nat.{_+_, _≤_, _<_};
+ghost use lib.ListN.{drop};
+ghost use Rattle.lxtr_spec.specs.Labels.{lengthCount};
+ghost use Rattle.lxtr_spec.specs.KeyLists.{keyAt};
+ghost use Rattle.lxtr_spec.specs.Placing;
+ghost use Rattle.lxtr_spec.specs.Placing.{endValue};
+ghost use Rattle.lxtr_build_laws.specs.KeyLists.{WholeKey, Ascending};
+ghost use Rattle.lxtr_place.specs.Groups.{groupOf, Grouped, goesBy, skipTo, runOf};
+use lxtr_keys::key_label;
+use lxtr_keys::key_length;
+use lxtr_keys::next_key;
+
+// `count` keys, of which the first starts at the place `at` and has the value number `first`. Of each, `depth` labels are used up.
+pub struct Group {
+    pub at: usize,
+    pub first: usize,
+    pub count: usize,
+    pub depth: usize,
+}
+
+// Whether the key at a place goes on by label x after `depth` labels.
+fn goes_by(keys: &[u8], at: usize, depth: usize, x: u32) -> bool
+    requires { ⌜ WholeKey (now keys) at ⌝ }
+    ensures { λ r. ⌜ r ≡ goesBy x (drop depth (keyAt (now (keys .entry)) at)) ⌝ }
+{
+    if key_length(keys, at) <= depth {
+        return false;
+    }
+    key_label(keys, at, depth) == x
+}
+
+// The group from its first key on that goes on by label x.
+fn skip_to(keys: &[u8], g: Group, x: u32) -> Group
+    requires { ⌜ Grouped (now keys) g ⌝ }
+    ensures { λ r. ⌜ Grouped (now (keys .entry)) r ⌝ }
+    ensures { λ r. ⌜ (r .depth ≡ g .depth) × (groupOf (now (keys .entry)) r ≡ skipTo x (groupOf (now (keys .entry)) g)) ⌝ }
+{
+    let mut at = g.at;
+    let mut i: usize = 0;
+    while i < g.count {
+        if goes_by(keys, at, g.depth, x) {
+            return Group {
+                at,
+                first: g.first + i,
+                count: g.count - i,
+                depth: g.depth,
+            };
+        }
+        at = next_key(keys, at);
+        i += 1;
+    }
+    Group {
+        at,
+        first: g.first + i,
+        count: 0,
+        depth: g.depth,
+    }
+}
+
+// How many keys at the group's front go on by label x.
+fn run_of(keys: &[u8], g: Group, x: u32) -> usize
+    requires { ⌜ Grouped (now keys) g ⌝ }
+    ensures { λ r. ⌜ (r ≤ g .count) × (r ≡ runOf x (groupOf (now (keys .entry)) g)) ⌝ }
+{
+    let mut at = g.at;
+    let mut i: usize = 0;
+    while i < g.count {
+        if !goes_by(keys, at, g.depth, x) {
+            return i;
+        }
+        at = next_key(keys, at);
+        i += 1;
+    }
+    i
+}
+
+// The group of the child by label x: the keys that go on by x, and what is left of them behind it.
+pub fn below(keys: &[u8], g: Group, x: u32) -> Group
+    requires { ⌜ Grouped (now keys) g ⌝ }
+    requires { ⌜ Ascending (groupOf (now keys) g) ⌝ }
+    requires { ⌜ g .depth < lengthCount ⌝ }
+    ensures { λ r. ⌜ Grouped (now (keys .entry)) r ⌝ }
+    ensures { λ r. ⌜ (r .depth ≡ g .depth + 1) × (groupOf (now (keys .entry)) r ≡ Placing.below x (groupOf (now (keys .entry)) g)) ⌝ }
+{
+    let from = skip_to(keys, g, x);
+    let count = run_of(keys, from, x);
+    Group {
+        at: from.at,
+        first: from.first,
+        count,
+        depth: from.depth + 1,
+    }
+}
+
+// The value number of the key of which no label is left, or 0. That key can only be the first.
+pub fn end_value(keys: &[u8], g: Group) -> u32
+    requires { ⌜ Grouped (now keys) g ⌝ }
+    requires { ⌜ Ascending (groupOf (now keys) g) ⌝ }
+    ensures { λ r. ⌜ r ≡ endValue (groupOf (now (keys .entry)) g) ⌝ }
+{
+    if g.count == 0 {
+        return 0;
+    }
+    if g.depth < key_length(keys, g.at) {
+        return 0;
+    }
+    g.first as u32
+}

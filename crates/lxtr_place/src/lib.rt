@@ -1,0 +1,55 @@
+// Places the keys of a key list by first fit, as slots in lent work: document 01, "Building".
+pub mod slots; // the slots of lent work
+mod fitting; // the smallest base that fits
+mod groups; // the keys that pass a slot
+mod codes; // the codes of a group's children
+mod settling; // a slot's own words, and its children's
+mod placing; // a group and all below it
+
+ghost use mathlib.Core.Path.{_≡_};
+ghost use lib.ListN.{length};
+ghost use Rattle.lxtr_spec.specs.KeyLists.{pairsOf};
+ghost use Rattle.lxtr_spec.specs.CodeMaps.{mapOf};
+ghost use Rattle.lxtr_spec.specs.Builds.{placedIn};
+ghost use Rattle.lxtr_build_laws.specs.KeyLists.{KeysPassed};
+ghost use Rattle.lxtr_build_laws.specs.CodeTables.{CodeTables};
+ghost use Rattle.lxtr_build_laws.specs.Work.{Cleared, placedAs};
+use crate::groups::Group;
+use crate::placing::place;
+use crate::slots::slots_in;
+use lxtr_keys::KEYS_AT;
+use lxtr_keys::key_count;
+use lxtr_spec::LENGTH_COUNT;
+
+// Places all keys, which pass slot 1, with the tables of their code map. Answers whether each slot had a base.
+pub fn place_all(
+    keys: &[u8],
+    labels: &[u32],
+    codes: &[u32],
+    order: &[u32],
+    work: &mut [u32],
+) -> bool
+    requires { ⌜ KeysPassed (now keys) ⌝ }
+    requires { ⌜ CodeTables (pairsOf (now keys)) (now labels) (now codes) (now order) ⌝ }
+    requires { ⌜ Cleared (now work) ⌝ }
+    ensures { λ r. ⌜ placedAs r (now (work .exit)) ≡ placedIn (length (now (work .entry))) (pairsOf (now (keys .entry))) (mapOf (pairsOf (now (keys .entry)))) ⌝ }
+{
+    let all = Group {
+        at: KEYS_AT,
+        first: 0,
+        count: key_count(keys),
+        depth: 0,
+    };
+    let slots = slots_in(work.len());
+    place(
+        keys,
+        labels,
+        codes,
+        order,
+        work,
+        slots,
+        LENGTH_COUNT,
+        1,
+        all,
+    )
+}

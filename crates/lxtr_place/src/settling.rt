@@ -1,0 +1,72 @@
+// Settles a slot: finds its base, and writes its own words and those of its children.
+ghost use mathlib.Core.Path.{_≡_};
+ghost use Prim.Native.Nat.{_+_, _*_, _≤_, _<_};
+ghost use lib.ListN.{length};
+ghost use Rattle.lxtr_spec.specs.Labels.{valueLimit};
+ghost use Rattle.lxtr_spec.specs.Joining.{slotUnder};
+ghost use Rattle.lxtr_spec.specs.Placing;
+ghost use Rattle.lxtr_spec.specs.Placing.{putParent, putChild, putChildren};
+ghost use Rattle.lxtr_place.specs.Settling.{ChildrenInside, settledAs};
+use crate::fitting::first_fit;
+use lxtr_image::joining::slot_under;
+use lxtr_image::nodes::TOP_BIT;
+use lxtr_spec::Found;
+
+// Slot p's own words: its base, and HAS_LEAF beside its parent where the first of the codes is that of an end.
+fn put_parent(work: &mut [u32], p: u32, base: u32, codes: &[u32])
+    requires { ⌜ 2 * p + 1 < length (now work) ⌝ }
+    ensures { λ _. ⌜ now (work .exit) ≡ putParent p base (now (codes .entry)) (now (work .entry)) ⌝ }
+{
+    work[2 * p as usize] = base;
+    if codes.len() == 0 {
+        return;
+    }
+    if codes[0] != 0 {
+        return;
+    }
+    work[2 * p as usize + 1] = TOP_BIT + work[2 * p as usize + 1] % TOP_BIT;
+}
+
+// The words of p's child by a code. An end, which has code 0, also has IS_LEAF and the value.
+fn put_child(work: &mut [u32], p: u32, value: u32, base: u32, code: u32)
+    requires { ⌜ 2 * slotUnder base code + 1 < length (now work) ⌝ }
+    requires { ⌜ value < valueLimit ⌝ }
+    ensures { λ _. ⌜ now (work .exit) ≡ putChild p value base code (now (work .entry)) ⌝ }
+{
+    let t = slot_under(base, code) as usize;
+    if code != 0 {
+        work[2 * t + 1] = p;
+        return;
+    }
+    work[2 * t] = TOP_BIT + value;
+    work[2 * t + 1] = p;
+}
+
+// The words of all of p's children.
+fn put_children(work: &mut [u32], p: u32, value: u32, base: u32, codes: &[u32])
+    requires { ⌜ ChildrenInside (length (now work)) base (now codes) ⌝ }
+    requires { ⌜ value < valueLimit ⌝ }
+    ensures { λ _. ⌜ now (work .exit) ≡ putChildren p value base (now (codes .entry)) (now (work .entry)) ⌝ }
+{
+    let mut j: usize = 0;
+    while j < codes.len() {
+        put_child(work, p, value, base, codes[j]);
+        j += 1;
+    }
+}
+
+// Places p's children, which have these codes and of which an end has the value. Answers p's base.
+pub fn settle(work: &mut [u32], slots: usize, p: u32, value: u32, codes: &[u32]) -> Found
+    requires { ⌜ 2 * slots ≤ length (now work) ⌝ }
+    requires { ⌜ p < slots ⌝ }
+    requires { ⌜ value < valueLimit ⌝ }
+    ensures { λ r. ⌜ settledAs r (now (work .exit)) ≡ Placing.settle slots p value (now (codes .entry)) (now (work .entry)) ⌝ }
+{
+    let fit = first_fit(work, slots, codes);
+    let Found::Is(base) = fit else {
+        return Found::Nothing;
+    };
+    put_parent(work, p, base, codes);
+    put_children(work, p, value, base, codes);
+    Found::Is(base)
+}
