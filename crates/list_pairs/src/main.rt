@@ -1,0 +1,97 @@
+// The listing program: reads a key list on standard input, builds its image and prints the completions of the empty prefix, a line
+// for each pair. What a line says is decided by `lxtr_text`.
+ghost use mathlib.Core.Path.{_≡_};
+ghost use mathlib.Core.Bool.{true};
+ghost use Prim.Native.Nat.{_≤_};
+ghost use lib.ListN.{length};
+ghost use Rattle.lxtr_text.specs.Records.{isWholeRecord};
+use libc::STDIN_FILENO;
+use libc::STDOUT_FILENO;
+use lxtr_build::build;
+use lxtr_complete::complete;
+use lxtr_text::LINE_ROOM;
+use lxtr_text::is_whole_record;
+use lxtr_text::number_line;
+use lxtr_text::pair_line;
+use lxtr_text::record_end;
+
+// The longest key list. One byte more is read, so that a longer input is known.
+const INPUT_ROOM: usize = 32768;
+
+const WORK_WORDS: usize = 16384;
+
+const OUTPUT_ROOM: usize = 65536;
+
+const LISTING_ROOM: usize = 65536;
+
+// Where the records of a listing start: behind the version byte and the count.
+const RECORDS_AT: usize = 5;
+
+// Prints a line of a word and a number.
+fn print_number(word: &[u8], n: u32)
+    requires { ⌜ length (now word) ≤ 7 ⌝ }
+{
+    let mut line = [0u8; LINE_ROOM];
+    let length = number_line(word, n, &mut line);
+    io::write_all(STDOUT_FILENO, &line[..length]);
+}
+
+fn print_refusal(refusal: u8) {
+    print_number(b"refused", refusal as u32);
+}
+
+fn print_pair(listing: &[u8], at: usize)
+    requires { ⌜ isWholeRecord (now listing) at ≡ true ⌝ }
+{
+    let mut line = [0u8; LINE_ROOM];
+    let length = pair_line(listing, at, &mut line);
+    io::write_all(STDOUT_FILENO, &line[..length]);
+}
+
+// Prints the pairs of a listing. Each record of a listing lies whole in it: the test only keeps the reading within bounds.
+fn print_pairs(listing: &[u8], count: u32) {
+    let mut at = RECORDS_AT;
+    let mut i: u32 = 0;
+    while i < count {
+        if !is_whole_record(listing, at) {
+            return;
+        }
+        print_pair(listing, at);
+        at = record_end(listing, at);
+        i += 1;
+    }
+}
+
+// Prints the completions of the empty prefix.
+fn list_image(image: &[u8]) {
+    let mut listing = [0u8; LISTING_ROOM];
+    let answer = complete(image, b"", &mut listing);
+    if answer.refusal != 0 {
+        print_refusal(answer.refusal);
+        return;
+    }
+    print_number(b"pairs", answer.count);
+    print_pairs(&listing, answer.count);
+}
+
+// Builds the image of the keys, and lists it.
+fn list_keys(keys: &[u8]) {
+    let mut work = [0u32; WORK_WORDS];
+    let mut out = [0u8; OUTPUT_ROOM];
+    let built = build(keys, &mut work, &mut out);
+    if built.refusal != 0 {
+        print_refusal(built.refusal);
+        return;
+    }
+    list_image(&out[..built.length as usize]);
+}
+
+fn main() {
+    let mut input = [0u8; INPUT_ROOM + 1];
+    let length = io::read_full(STDIN_FILENO, &mut input);
+    if INPUT_ROOM < length {
+        print_refusal(15);
+        return;
+    }
+    list_keys(&input[..length]);
+}
