@@ -8,6 +8,7 @@ ghost use Rattle.lxtr_text.specs.Records.{isWholeRecord};
 use libc::STDIN_FILENO;
 use libc::STDOUT_FILENO;
 use lxtr_build::build;
+use lxtr_complete::HEAD_LENGTH;
 use lxtr_complete::complete;
 use lxtr_text::LINE_ROOM;
 use lxtr_text::is_whole_record;
@@ -23,9 +24,6 @@ const WORK_WORDS: usize = 16384;
 const OUTPUT_ROOM: usize = 65536;
 
 const LISTING_ROOM: usize = 65536;
-
-// Where the records of a listing start: behind the version byte and the count.
-const RECORDS_AT: usize = 5;
 
 // Prints a line of a word and a number.
 fn print_number(word: &[u8], n: u32)
@@ -50,7 +48,7 @@ fn print_pair(listing: &[u8], at: usize)
 
 // Prints the pairs of a listing. Each record of a listing lies whole in it: the test only keeps the reading within bounds.
 fn print_pairs(listing: &[u8], count: u32) {
-    let mut at = RECORDS_AT;
+    let mut at = HEAD_LENGTH;
     let mut i: u32 = 0;
     while i < count {
         if !is_whole_record(listing, at) {

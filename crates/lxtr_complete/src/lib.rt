@@ -29,7 +29,7 @@ use lxtr_spec::Found;
 use lxtr_spec::LENGTH_COUNT;
 
 // How many bytes version and count take, at the front of the room.
-const HEAD_LENGTH: usize = 5;
+pub const HEAD_LENGTH: usize = 5;
 
 // Version 1 and a count.
 fn put_head(room: &mut [u8], count: u32)

@@ -28,9 +28,9 @@ pub record HasExactly (d : PairSet) (ps : List Pair) : Type 0 where
 -- what holds of the image that a key list gives
 pub record ReadsBack (keys image : List ℕ) : Type 0 where
   -- It is an image of exactly the set "key i has value i".
-  pub set : PairSet
-  pub set-is : HasExactly set (pairsOf keys)
-  pub image-of : ImageOf image set
+  pub pair-set : PairSet
+  pub pair-set-is : HasExactly pair-set (pairsOf keys)
+  pub image-of : ImageOf image pair-set
   -- So the check accepts it with that count,
   pub checked : checkOf image ≡ record { refusal = 0; pairs = keyCount keys }
   -- exact finds each key's number
@@ -38,8 +38,8 @@ pub record ReadsBack (keys image : List ℕ) : Type 0 where
   -- and nothing else,
   pub exact-only : (q : List ℕ) (v : ℕ) → exactOf image q .value ≡ some v → List·Memᴰ (labelsOf q, v) (pairsOf keys)
   -- and completing the empty prefix with room enough lists the keys, in code order.
-  pub listing : (ps : List Pair) × Lists image set [] ps
-  pub completion : (ps : List Pair) (room : List ℕ) → Lists image set [] ps → roomFor ps ≤ length room
+  pub listing : (ps : List Pair) × Lists image pair-set [] ps
+  pub completion : (ps : List Pair) (room : List ℕ) → Lists image pair-set [] ps → roomFor ps ≤ length room
       → completionOf image [] room ≡ record { answer = record { refusal = 0; count = keyCount keys; stopped = false }; room = listingOf ps ++ drop (roomFor ps) room }
 
 -- wherever building refuses nothing; the image are the bytes that it wrote at the output's front

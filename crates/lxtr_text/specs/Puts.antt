@@ -4,8 +4,8 @@ use native.Mathlib.Omega.{arith}
 use native.Mathlib.Numerals.{add-one}
 use mathlib.Core.Path.{_≡_, refl, sym, ap, _∙_}
 use mathlib.Core.List.{List, [], _∷_, _++_}
-use lib.ListN.{length, take, drop, set, getD, length-append, length-set}
-use lib.Seq.{take-at, take-suc, take-length, length-take-le}
+use lib.ListN.{length, take, set, getD, length-append, length-set}
+use lib.Seq.{take-suc, take-length, length-take-le}
 use Rattle.lxtr_laws.specs.Overlays.{over, over-length, over-none, over-set, over-over}
 
 -- the bytes xs lie in the line from a place on, and r is the place behind them
@@ -13,10 +13,10 @@ pub record Put (line : List ℕ) (at : ℕ) (xs line′ : List ℕ) (r : ℕ) : 
   pub is : line′ ≡ over line at xs
   pub next : r ≡ at + length xs
 
--- the line begins with the text, whose length is r
-pub record LineIs (text line : List ℕ) (r : ℕ) : Type 0 where
-  pub within : r ≤ length line
-  pub is : take r line ≡ text
+-- the text lies at the front of the line, whose rest stays, and r is its length
+pub record PutLine (line text line′ : List ℕ) (r : ℕ) : Type 0 where
+  pub put : Put line 0 text line′ r
+  pub within : r ≤ length line′
 
 pub put-none : (line : List ℕ) (at : ℕ) → Put line at [] line at
 put-none line at = record { is = sym (over-none line at); next = omega arith }
@@ -35,19 +35,9 @@ module _ {line : List ℕ} {at : ℕ} {xs line′ : List ℕ} {m : ℕ} (p : Put
     next = let e = length-append xs ys in let a = p .next in let b = q .next in omega arith;
   }
 
--- a whole line, put from its front on
-pub line-is : {line text line′ : List ℕ} {r : ℕ} → Put line 0 text line′ r → length text ≤ length line → LineIs text line′ r
-unfolding over
-line-is {line} {text} {line′} {r} p h = record {
-  within = let e = put-length p (omega arith) in let a = p .next in omega arith;
-  is = ap (take r) (p .is) ∙ front;
-}
-  where
-    long : length text ≡ r
-    long = let a = p .next in omega arith
-
-    front : take r (over line 0 text) ≡ text
-    front = take-at text (drop (0 + length text) line) r long
+-- a whole line, for which there is room
+pub put-line : {line text line′ : List ℕ} {r : ℕ} → Put line 0 text line′ r → length text ≤ length line → PutLine line text line′ r
+put-line p h = record { put = p; within = let e = put-length p (omega arith) in let a = p .next in omega arith }
 
 -- the bytes of a word, one after the other: i of them are in the line
 module _ (line : List ℕ) (at : ℕ) (word : List ℕ) where

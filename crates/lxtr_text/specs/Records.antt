@@ -14,7 +14,7 @@ use Rattle.lxtr_spec.specs.Lines.{space, decimalDigits, hexadecimalDigits, hexa
 use Rattle.lxtr_laws.specs.Ranges.{tests}
 use Rattle.lxtr_build_laws.specs.KeyLists.{WholeKey}
 use Rattle.lxtr_build_laws.specs.Keys.{key-size, key-at}
-use Rattle.lxtr_text.specs.Puts.{Put, LineIs}
+use Rattle.lxtr_text.specs.Puts.{Put, PutLine}
 use Rattle.lxtr_text.specs.Texts.{LabelsSoFar, label-place, labels-next, labels-end}
 
 -- room for the longest line: a value, the labels with a space before each, and the line's end
@@ -48,9 +48,9 @@ module _ (b : List ℕ) (at : ℕ) where
   pub record-short : WholeRecord b at → length (keyAt b at) ≤ maxLabels
   record-short w = let s = w .key .short in let e = key-size b at in omega arith
 
-  pub value-is : (next value : ℕ) (l : List ℕ) (r : ℕ) → next ≡ nextKey b at → value ≡ be32 b next → LineIs (pairLine (keyAt b at, value)) l r → LineIs (pairLine (recordPair b at)) l r
+  pub value-is : (next value : ℕ) (line l : List ℕ) (r : ℕ) → next ≡ nextKey b at → value ≡ be32 b next → PutLine line (pairLine (keyAt b at, value)) l r → PutLine line (pairLine (recordPair b at)) l r
   unfolding recordPair
-  value-is next value l r e f = λ p. rw (sym e, sym f) p
+  value-is next value line l r e f = λ p. rw (sym e, sym f) p
 
   -- what the tests say, one after the other
   pub starts-past : length b ≤ at → false ≡ isWholeRecord b at

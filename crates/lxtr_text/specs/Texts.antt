@@ -8,7 +8,7 @@ use lib.ListN.{length, take, getD, length-append}
 use lib.Seq.{take-suc, take-all, length-take-le}
 use Rattle.lxtr_spec.specs.Labels.{maxLabels}
 use Rattle.lxtr_spec.specs.Lines.{space, lineEnd, numeral, decimalDigits, decimal, hexadecimal, numberLine, labelsText, pairLine}
-use Rattle.lxtr_text.specs.Puts.{Put, LineIs, put-none, put-length, put-more, line-is}
+use Rattle.lxtr_text.specs.Puts.{Put, PutLine, put-none, put-length, put-more, put-line}
 use Rattle.lxtr_text.specs.Numerals.{numeral-length}
 
 -- ---- a word and a number
@@ -33,9 +33,9 @@ module _ (line word : List ℕ) (n : ℕ) (room : length word + 1 + decimalDigit
           let f = put-length p₂ (omega arith) in let t = p₂ .next in
           let g = put-length p₃ within in let u = p₃ .next in let l = numeral-length 10 10 n in omega arith
 
-      pub number-line : (l₄ : List ℕ) (r : ℕ) → Put l₃ c (lineEnd ∷ []) l₄ r → LineIs (numberLine word n) l₄ r
+      pub number-line : (l₄ : List ℕ) (r : ℕ) → Put l₃ c (lineEnd ∷ []) l₄ r → PutLine line (numberLine word n) l₄ r
       unfolding numberLine decimal
-      number-line l₄ r p₄ = line-is (put-more p₁ (omega arith) (put-more p₂ (let h = after-word in omega arith) (put-more p₃ within p₄))) size
+      number-line l₄ r p₄ = put-line (put-more p₁ (omega arith) (put-more p₂ (let h = after-word in omega arith) (put-more p₃ within p₄))) size
         where
           size : length (word ++ (space ∷ (numeral 10 10 n ++ (lineEnd ∷ [])))) ≤ length line
           size =
@@ -118,9 +118,9 @@ module _ (line key : List ℕ) (value : ℕ) (room : 10 + 9 * maxLabels + 1 ≤ 
         let l = numeral-length 10 10 value in let e = put-length p₁ value-in in let n = p₁ .next in
         let k = labels-length key in let f = put-length p₂ labels-in in let m = p₂ .next in omega arith
 
-    pub pair-line : (l₃ : List ℕ) (r : ℕ) → Put l₂ b (lineEnd ∷ []) l₃ r → LineIs (pairLine (key, value)) l₃ r
+    pub pair-line : (l₃ : List ℕ) (r : ℕ) → Put l₂ b (lineEnd ∷ []) l₃ r → PutLine line (pairLine (key, value)) l₃ r
     unfolding pairLine decimal
-    pair-line l₃ r p₃ = line-is (put-more p₁ value-in (put-more p₂ labels-in p₃)) size
+    pair-line l₃ r p₃ = put-line (put-more p₁ value-in (put-more p₂ labels-in p₃)) size
       where
         size : length (numeral 10 10 value ++ (labelsText key ++ (lineEnd ∷ []))) ≤ length line
         size =

@@ -8,7 +8,7 @@ ghost use Prim.Native.Nat.{_+_, _*_, _≤_, _<_};
 ghost use lib.ListN.{length};
 ghost use Rattle.lxtr_spec.specs.KeyLists.{keyAt};
 ghost use Rattle.lxtr_spec.specs.Lines.{space, decimalDigits, hexadecimalDigits, hexadecimal, numberLine, labelsText, pairLine};
-ghost use Rattle.lxtr_text.specs.Puts.{Put, LineIs};
+ghost use Rattle.lxtr_text.specs.Puts.{Put, PutLine};
 ghost use Rattle.lxtr_text.specs.Records.{lineRoom, recordPair, recordEnd, isWholeRecord, WholeRecord};
 use crate::numerals::put_byte;
 use crate::numerals::put_numeral;
@@ -67,7 +67,7 @@ fn put_labels(line: &mut [u8], start: usize, listing: &[u8], at: usize) -> usize
 // A line of a word and a number; answers its length.
 pub fn number_line(word: &[u8], n: u32, line: &mut [u8]) -> usize
     requires { ⌜ length (now word) + 1 + decimalDigits + 1 ≤ length (now line) ⌝ }
-    ensures { λ r. ⌜ LineIs (numberLine (now (word .entry)) n) (now (line .exit)) r ⌝ }
+    ensures { λ r. ⌜ PutLine (now (line .entry)) (numberLine (now (word .entry)) n) (now (line .exit)) r ⌝ }
 {
     let word_end = put_word(line, 0, word);
     let start = put_byte(line, word_end, b' ');
@@ -100,7 +100,7 @@ pub fn record_end(listing: &[u8], at: usize) -> usize
 pub fn pair_line(listing: &[u8], at: usize, line: &mut [u8]) -> usize
     requires { ⌜ isWholeRecord (now listing) at ≡ true ⌝ }
     requires { ⌜ lineRoom ≤ length (now line) ⌝ }
-    ensures { λ r. ⌜ LineIs (pairLine (recordPair (now (listing .entry)) at)) (now (line .exit)) r ⌝ }
+    ensures { λ r. ⌜ PutLine (now (line .entry)) (pairLine (recordPair (now (listing .entry)) at)) (now (line .exit)) r ⌝ }
 {
     let value = be32_at(listing, next_key(listing, at));
     let value_end = put_numeral(line, 0, 10, DECIMAL_DIGITS, value);

@@ -101,8 +101,8 @@ module _ (keys image : List ℕ) (right : KeysRight (pairsOf keys)) (image-of : 
   reads-back : ReadsBack keys image
   unfolding checkOf unlessRefused
   reads-back = record {
-    set = d;
-    set-is = record { each = has; only = member };
+    pair-set = d;
+    pair-set-is = record { each = has; only = member };
     image-of = image-of;
     checked = rw (image-passes image-of, ends-count);
     exact = exact-finds;

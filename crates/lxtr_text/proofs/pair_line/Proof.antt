@@ -20,5 +20,5 @@ pair-line-spec =
     pair-end _ (keyAt (s .args .listing .now) (s .args .at)) _ (s .pre .1) (record-short _ _ w) _ _ (n .put-numeral .ensures) _ _ (l .put-labels .ensures))
     (λ c. search needs)
     (λ c. let e = c .before .before in let l = e .before .before .before .before in let n = l .before .before .before .before in let v = n .before .before in let s = n .before .before .before .before .before .before in let w = whole-record _ _ (s .pre .0) in
-    value-is _ _ _ _ _ _ (v .before .next-key .ensures) (v .be32-at .ensures)
+    value-is _ _ _ _ _ _ _ (v .before .next-key .ensures) (v .be32-at .ensures)
     (pair-line _ (keyAt (s .args .listing .now) (s .args .at)) _ (s .pre .1) (record-short _ _ w) _ _ (n .put-numeral .ensures) _ _ (l .put-labels .ensures) _ _ (e .put-byte .ensures))))
