@@ -5,7 +5,7 @@ use mathlib.Core.Path.{refl}
 use mathlib.Core.List.{List, [], _∷_, _++_}
 use lib.ListN.{replicate}
 use Rattle.lxtr_spec.specs.Samples.{keyList}
-use Rattle.lxtr_examples.specs.Rows.{Example, build-length, build-refused, AllHold, _and_, computing}
+use Rattle.lxtr_demands.specs.Rows.{Example, build-length, build-refused, AllHold, _and_, computing}
 
 unfoldable pub run-examples : List Example
 run-examples =

@@ -9,7 +9,7 @@ use Rattle.lxtr_spec.specs.Refusals.{checkOf}
 use Rattle.lxtr_spec.specs.Sets.{PairSet, ImageOf}
 use Rattle.lxtr_spec.specs.Samples.{p3, p10}
 use Rattle.lxtr_spec.specs.declared.Verdict.{Verdict}
-use Rattle.lxtr_examples.specs.Rows.{computing}
+use Rattle.lxtr_demands.specs.Rows.{computing}
 use Rattle.lxtr_demands.specs.Laws.Demand3.{demand3}
 
 pub p3-is-image : (d : PairSet) × ImageOf p3 d

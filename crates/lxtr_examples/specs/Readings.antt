@@ -8,7 +8,7 @@ use lib.ListN.{replicate, set}
 use Rattle.lxtr_spec.specs.Words.{beWords}
 use Rattle.lxtr_spec.specs.Builds.{imageBytes}
 use Rattle.lxtr_spec.specs.Samples.{nodes3, offsets3, children3, labels3, p3, p7, p9-labels, p9-longer}
-use Rattle.lxtr_examples.specs.Rows.{Example, refused, exact, prefixes, longest, probe, query-refused, completion-refused, AllHold, _and_, computing}
+use Rattle.lxtr_demands.specs.Rows.{Example, refused, exact, prefixes, longest, probe, query-refused, completion-refused, AllHold, _and_, computing}
 
 -- slot 1 is its own child by code 1, and slot 0 its end: any number of labels 61 walks
 unfoldable pub own-child : List ℕ
@@ -44,7 +44,7 @@ pub readings-hold : AllHold readings
 unfolding readings own-child computing
 readings-hold =
     (refl, refl, refl, refl, refl, refl, refl) and (refl, refl, refl, refl, refl, refl, refl)
-    and refl and refl and refl and refl and refl
+    and (refl, refl) and (refl, refl) and (refl, refl) and (refl, refl) and (refl, refl)
     and (refl, refl) and (refl, refl) and (refl, refl) and refl and (refl, refl) and (refl, refl)
     and (refl, refl, refl) and (refl, refl, refl) and (refl, refl, refl) and (refl, refl, refl)
     and (refl, refl) and (refl, refl) and (refl, refl) and (refl, refl) and (refl, refl) and (refl, refl)

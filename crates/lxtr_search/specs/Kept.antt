@@ -10,8 +10,9 @@ use lib.ListN.{length, take, set, length-append, length-map, length-take}
 use lib.Seq.{set-append-seam, length-take-le}
 use Rattle.lxtr_spec.specs.Ranges.{concatFrom}
 use Rattle.lxtr_spec.specs.Labels.{maxLabels, lengthCount, labelsOf}
+use Rattle.lxtr_spec.specs.Refusals.{unlessRefused}
 use Rattle.lxtr_spec.specs.Walks.{valueAt, valueOf}
-use Rattle.lxtr_spec.specs.Searches.{lengthMatch, matchAt, matches, prefixMatches, padded, matchLength, matchValue, prefixesAnswer, lastLength}
+use Rattle.lxtr_spec.specs.Searches.{searchRefusal, longestLength, lengthMatch, matchAt, matches, prefixMatches, padded, matchLength, matchValue, prefixesAnswer, lastLength}
 use Rattle.lxtr_spec.specs.Answers.{found}
 use Rattle.lxtr_spec.specs.declared.Found.{Found}
 use Rattle.lxtr_spec.specs.declared.Prefixes.{Prefixes}
@@ -70,11 +71,30 @@ last-within f xs (suc n) =
     let h : laterLength before n (f (take n xs)) ≤ n = later-within before n n (f (take n xs)) (omega (arith, last-within f xs n)) (le-refl n) in
     rw (concat-more (matchAt f xs) n 0, zero-add, last-more) (omega (arith, h))
 
+zero-or-less : (k n : ℕ) → unlessRefused k n 0 ≤ n
+unfolding unlessRefused
+zero-or-less zero n = le-refl n
+zero-or-less (suc k) n = omega arith
+
 module _ (b q : List ℕ) where
   -- the longest match is a part of the query
   longest-within : 4 * lastLength (prefixMatches b q) ≤ length q
   unfolding prefixMatches matches
   longest-within = omega (arith, last-within (valueOf b) (counted q) (length (counted q) + 1), length-take maxLabels (labelsOf q), label-count q)
+
+  -- and has no more labels than count
+  longest-counted : lastLength (prefixMatches b q) ≤ maxLabels
+  unfolding prefixMatches matches
+  longest-counted = omega (arith, last-within (valueOf b) (counted q) (length (counted q) + 1), length-take maxLabels (labelsOf q))
+
+  -- both also after a refusal, when its length is 0
+  pub longest-bytes : 4 * longestLength b q ≤ length q
+  unfolding longestLength
+  longest-bytes = omega (arith, zero-or-less (searchRefusal b q) (lastLength (prefixMatches b q)), longest-within)
+
+  pub longest-limit : longestLength b q ≤ maxLabels
+  unfolding longestLength
+  longest-limit = omega (arith, zero-or-less (searchRefusal b q) (lastLength (prefixMatches b q)), longest-counted)
 
   pub longest-part : (n : ℕ) → n ≡ lastLength (prefixMatches b q) → 4 * n ≡ length (take (4 * n) q)
   longest-part n e = sym (length-take-le (4 * n) q (rw e longest-within))

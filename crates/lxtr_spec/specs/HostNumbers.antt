@@ -1,34 +1,85 @@
--- Document 01, "The searches": the one 64-bit number by which each of four operations answers the host program.
+-- Document 01, "The searches": the one 64-bit number by which an operation answers a host program in C.
+-- Document 01 has check, exact, probe and the length of longest; prefixes, completions and building follow in the same manner.
 use Prim.Native.Nat.{ℕ, _+_, _*_, _^_}
-use mathlib.Core.List.{List}
+use mathlib.Core.List.{List, [], _∷_, _++_}
 use mathlib.Core.Option.{Option, some, none}
-use mathlib.Core.Bool.{Bool, cond}
-use Rattle.lxtr_spec.specs.Refusals.{checkOf}
-use Rattle.lxtr_spec.specs.Searches.{searchRefusal, exactOf, longestLength, probeOf}
+use mathlib.Core.Bool.{Bool, true, false, cond}
+use lib.ListN.{length, take, drop, getD}
+use Rattle.lxtr_spec.specs.Ranges.{concatFrom}
+use Rattle.lxtr_spec.specs.Labels.{lengthCount}
+use Rattle.lxtr_spec.specs.Refusals.{unlessRefused, checkOf}
+use Rattle.lxtr_spec.specs.Searches.{searchRefusal, exactOf, prefixesOf, longestLength, probeOf}
+use Rattle.lxtr_spec.specs.Completions.{completionOf}
+use Rattle.lxtr_spec.specs.Builds.{buildOf}
+use Rattle.lxtr_spec.specs.declared.Prefixes.{Prefixes}
+use Rattle.lxtr_spec.specs.declared.Completion.{Completion}
+use Rattle.lxtr_spec.specs.declared.Built.{Built}
 
--- the refusal number times 2^40,
-unfoldable pub refusalPart : ℕ → ℕ
-refusalPart k = k * 2 ^ 40
+-- the refusal number times 2^40, plus 2^33 if longer keys exist (probe only), plus 2^32 if there is a value (exact and probe),
+-- plus the value, the pair count or the length in labels
+unfoldable pub hostNumber : ℕ → Bool → Bool → ℕ → ℕ
+hostNumber k more valued n = k * 2 ^ 40 + cond more (2 ^ 33) 0 + cond valued (2 ^ 32) 0 + n
 
--- plus 2^33 if longer keys exist (probe only),
-unfoldable pub longerPart : Bool → ℕ
-longerPart longer = cond longer (2 ^ 33) 0
+-- of a value or none
+unfoldable pub valueNumbered : ℕ → Bool → Option ℕ → ℕ
+valueNumbered k more none = hostNumber k more false 0
+valueNumbered k more (some v) = hostNumber k more true v
 
--- plus 2^32 if there is a value (exact and probe), plus the value,
-unfoldable pub valuePart : Option ℕ → ℕ
-valuePart none = 0
-valuePart (some v) = 2 ^ 32 + v
+unfoldable pub checkNumber : List ℕ → ℕ
+checkNumber b = hostNumber (checkOf b .refusal) false false (checkOf b .pairs)
 
 unfoldable pub exactNumber : List ℕ → List ℕ → ℕ
-exactNumber b q = refusalPart (exactOf b q .refusal) + valuePart (exactOf b q .value)
+exactNumber b q = valueNumbered (exactOf b q .refusal) false (exactOf b q .value)
 
 unfoldable pub probeNumber : List ℕ → List ℕ → ℕ
-probeNumber b q = refusalPart (probeOf b q .refusal) + longerPart (probeOf b q .longer) + valuePart (probeOf b q .value)
+probeNumber b q = valueNumbered (probeOf b q .refusal) (probeOf b q .longer) (probeOf b q .value)
 
--- the pair count
-unfoldable pub checkNumber : List ℕ → ℕ
-checkNumber b = refusalPart (checkOf b .refusal) + checkOf b .pairs
-
--- or the length in labels
 unfoldable pub longestNumber : List ℕ → List ℕ → ℕ
-longestNumber b q = refusalPart (searchRefusal b q) + longestLength b q
+longestNumber b q = hostNumber (searchRefusal b q) false false (longestLength b q)
+
+-- Not in document 01, which gives these no number: the number, with what the lent memory holds afterwards.
+
+-- Prefixes: the count; length and value of each of the 65 places one after the other, as far as the lent words go. Those past
+-- them stay. A refusal writes nothing.
+pub record HostPrefixes : Type 0 where
+  pub number : ℕ
+  pub places : List ℕ
+
+unfoldable pub placeWords : List ℕ → List ℕ → ℕ → List ℕ
+placeWords lengths values j = getD lengths j 0 ∷ getD values j 0 ∷ []
+
+unfoldable pub alternately : List ℕ → List ℕ → List ℕ
+alternately lengths values = concatFrom lengthCount 0 (placeWords lengths values)
+
+unfoldable pub atFront : List ℕ → List ℕ → List ℕ
+atFront xs places = take (length places) xs ++ drop (length xs) places
+
+unfoldable pub prefixesTo : Prefixes → List ℕ → HostPrefixes
+prefixesTo p places = record { number = hostNumber (p .refusal) false false (p .count); places = unlessRefused (p .refusal) (atFront (alternately (p .lengths) (p .values)) places) places }
+
+unfoldable pub hostPrefixesOf : List ℕ → List ℕ → List ℕ → HostPrefixes
+hostPrefixesOf b q places = prefixesTo (prefixesOf b q) places
+
+-- Completions: the count of records, plus 2^33 if it stopped.
+pub record HostCompletion : Type 0 where
+  pub number : ℕ
+  pub room : List ℕ
+
+unfoldable pub completionNumber : Completion → ℕ
+completionNumber a = hostNumber (a .refusal) (a .stopped) false (a .count)
+
+unfoldable pub hostCompletionOf : List ℕ → List ℕ → List ℕ → HostCompletion
+hostCompletionOf b q room = record { number = completionNumber (completionOf b q room .answer); room = completionOf b q room .room }
+
+-- Building: the image's length in bytes.
+pub record HostBuild : Type 0 where
+  pub number : ℕ
+  pub output : List ℕ
+  pub work : List ℕ
+
+unfoldable pub builtNumber : Built → ℕ
+builtNumber a = hostNumber (a .refusal) false false (a .length)
+
+unfoldable pub hostBuildOf : List ℕ → List ℕ → List ℕ → HostBuild
+hostBuildOf keys work out =
+    record { number = builtNumber (buildOf keys work out .answer); output = buildOf keys work out .output; work = buildOf keys work out .work }

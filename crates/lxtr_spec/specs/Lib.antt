@@ -8,11 +8,11 @@ pub mod Refusals
 pub mod Walks
 pub mod Searches
 pub mod Completions
-pub mod HostNumbers
 pub mod KeyLists
 pub mod CodeMaps
 pub mod Placing
 pub mod Builds
+pub mod HostNumbers
 pub mod Lines
 pub mod Sets
 pub mod Meaning

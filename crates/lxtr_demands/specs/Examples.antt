@@ -1,11 +1,12 @@
 -- Document 01's examples P1 to P11 as one table: the definitions compute to what stands there. P1 to P3 and P11 are also built.
--- Not in the document, but beside its examples: the listings of P1 to P3, the last two rows of P5, and the numbers for the host program.
+-- Not in the document, but beside its examples: the listings of P1 to P3, the last four rows of P5, and the numbers for the host program.
 use mathlib.Core.Path.{refl}
-use mathlib.Core.List.{List, [], _∷_}
+use mathlib.Core.List.{List, [], _∷_, _++_}
 use mathlib.Core.Option.{some, none}
 use mathlib.Core.Bool.{true, false}
+use lib.ListN.{replicate}
 use Rattle.lxtr_spec.specs.Samples.{p1, p2, p3, p7, p8-check, p8-slot, p9-labels, p9-longer, p10, p11}
-use Rattle.lxtr_examples.specs.Rows.{Example, image-length, accepted, refused, exact, prefixes, longest, probe, completes, builds, AllHold, _and_, computing}
+use Rattle.lxtr_demands.specs.Rows.{Example, image-length, accepted, refused, exact, prefixes, prefix-words, longest, probe, completes, builds, AllHold, _and_, computing}
 
 unfoldable pub examples : List Example
 examples =
@@ -22,6 +23,8 @@ examples =
     -- P5
     ∷ prefixes p3 (0x6E ∷ 0x61 ∷ 0x6E ∷ []) (1 ∷ 2 ∷ []) (0 ∷ 1 ∷ [])
     ∷ prefixes p3 (0x6E ∷ 0x61 ∷ []) (1 ∷ 2 ∷ []) (0 ∷ 1 ∷ [])
+    ∷ prefix-words p3 (0x6E ∷ 0x61 ∷ 0x6E ∷ []) 3 (1 ∷ 0 ∷ 2 ∷ []) 2
+    ∷ prefix-words p3 (0x6E ∷ 0x61 ∷ 0x6E ∷ []) 132 (1 ∷ 0 ∷ 2 ∷ 1 ∷ (replicate 126 0 ++ 7 ∷ 7 ∷ [])) 2
     ∷ longest p3 (0x6E ∷ 0x61 ∷ 0x6E ∷ []) (0x6E ∷ 0x61 ∷ [])
     -- P6
     ∷ probe p3 (0x6E ∷ []) (some 0) true 0x3_0000_0000 ∷ probe p3 (0x6E ∷ 0x61 ∷ []) (some 1) false 0x1_0000_0001
@@ -39,13 +42,13 @@ examples =
 pub examples-hold : AllHold examples
 unfolding examples computing
 examples-hold =
-    refl and refl and (refl, refl) and (refl, refl)
-    and refl and refl and (refl, refl) and (refl, refl)
-    and refl and refl and (refl, refl) and (refl, refl)
+    (refl, refl) and refl and (refl, refl) and (refl, refl, refl)
+    and (refl, refl) and refl and (refl, refl) and (refl, refl, refl)
+    and (refl, refl) and refl and (refl, refl) and (refl, refl, refl)
     and (refl, refl) and (refl, refl) and (refl, refl) and (refl, refl)
-    and refl and refl and (refl, refl)
+    and refl and refl and refl and refl and (refl, refl)
     and (refl, refl) and (refl, refl) and (refl, refl) and (refl, refl)
     and (refl, refl, refl) and (refl, refl)
     and (refl, refl, refl) and (refl, refl, refl) and (refl, refl, refl) and (refl, refl, refl) and (refl, refl, refl)
-    and refl and (refl, refl) and (refl, refl)
+    and (refl, refl) and (refl, refl) and (refl, refl, refl)
     and tt

@@ -15,7 +15,7 @@ use Rattle.lxtr_spec.specs.Refusals.{refuseIf, firstRefusal, unlessRefused, too
 use Rattle.lxtr_spec.specs.Walks.{step, stepBy, walk, walkWithin, leafValue, valueAt, valueReached, valueOf, longerAt}
 use Rattle.lxtr_spec.specs.Searches.{queryRefusal, searchRefusal, exactValue, exactOf, lengthMatch, matchAt, matches, prefixMatches, prefixesAnswer, prefixesOf, lastLength, longestLength, longestOf, probeAnswer, probeAt, probeOf}
 use Rattle.lxtr_spec.specs.Completions.{entryPairs, listFrom, pairsAt, pairsBelow, recordOf, recordsOf, fitting, listingOf, listedIn, completionAnswer, written, completionRefusal, completionOf}
-use Rattle.lxtr_spec.specs.HostNumbers.{refusalPart, longerPart, valuePart, exactNumber, probeNumber, checkNumber, longestNumber}
+use Rattle.lxtr_spec.specs.HostNumbers.{hostNumber, valueNumbered, checkNumber, exactNumber, probeNumber, longestNumber, placeWords, alternately, atFront, prefixesTo, hostPrefixesOf, completionNumber, hostCompletionOf, builtNumber, hostBuildOf}
 use Rattle.lxtr_spec.specs.KeyLists.{listVersion, keyCount, keyLength, keyLabel, nextKey, keyLabels, keyAt, keysFrom, pairsOf, noScalarAt, notAbove, keyRefusal, keysRefusal, listRefusal}
 use Rattle.lxtr_spec.specs.CodeMaps.{insert, insertAll, labelsUsed, contains, frequency, goesBefore, rankIn, ranked, mapOf, codeIn, labelWith}
 use Rattle.lxtr_spec.specs.Placing.{baseAt, checkAt, isTakenFrom2, isFree, fits, firstFitFrom, firstFit, nextCode, childCodes, below, endValue, putChild, putChildren, putParent, settle, intoEach, place}
@@ -34,6 +34,8 @@ pub data Example : Type 0 where
   exact : List ℕ → List ℕ → Option ℕ → ℕ → Example
   -- image, query, lengths and values of the matches
   prefixes : List ℕ → List ℕ → List ℕ → List ℕ → Example
+  -- image, query, how many words are lent to the host's entry for prefixes, what they hold afterwards, number for the host program
+  prefix-words : List ℕ → List ℕ → ℕ → List ℕ → ℕ → Example
   -- image, query, the matched part
   longest : List ℕ → List ℕ → List ℕ → Example
   -- image, query, value, whether longer keys exist, number for the host program
@@ -59,7 +61,7 @@ unwritten n = replicate n 0xFF
 abbrev unset : ℕ → List ℕ
 unset n = replicate n 7
 
--- what an example says, for the answer, the number for the host program and the room
+-- what an example says, for the answer, the number for the host program and the lent memory
 abbrev pub Holds : Example → Type 0
 Holds (image-length b n) = length b ≡ n
 Holds (accepted b n) = (checkOf b ≡ record { refusal = 0; pairs = n }) × (checkNumber b ≡ n)
@@ -69,6 +71,7 @@ Holds (refused b k) =
 Holds (exact b xs v n) = (exactOf b (beWords xs) ≡ record { refusal = 0; value = v }) × (exactNumber b (beWords xs) ≡ n)
 Holds (prefixes b xs lengths values) =
     prefixesOf b (beWords xs) ≡ record { refusal = 0; count = length lengths; lengths = lengths ++ replicate (lengthCount - length lengths) 0; values = values ++ replicate (lengthCount - length values) 0 }
+Holds (prefix-words b xs n words number) = hostPrefixesOf b (beWords xs) (unset n) ≡ record { number = number; places = words }
 Holds (longest b xs ys) = (longestOf b (beWords xs) ≡ record { refusal = 0; part = beWords ys }) × (longestNumber b (beWords xs) ≡ length ys)
 Holds (probe b xs v longer n) =
     (probeOf b (beWords xs) ≡ record { refusal = 0; value = v; longer = longer }) × (probeNumber b (beWords xs) ≡ n)
@@ -77,13 +80,17 @@ Holds (query-refused b q k) =
     × (prefixesOf b q ≡ record { refusal = k; count = 0; lengths = replicate lengthCount 0; values = replicate lengthCount 0 })
     × (longestOf b q ≡ record { refusal = k; part = [] }) × (longestNumber b q ≡ k * 2 ^ 40)
     × (probeOf b q ≡ record { refusal = k; value = none; longer = false }) × (probeNumber b q ≡ k * 2 ^ 40)
-Holds (completion-refused b q n k) = completionOf b q (unwritten n) ≡ record { answer = record { refusal = k; count = 0; stopped = false }; room = unwritten n }
+Holds (completion-refused b q n k) =
+    (completionOf b q (unwritten n) ≡ record { answer = record { refusal = k; count = 0; stopped = false }; room = unwritten n })
+    × (hostCompletionOf b q (unwritten n) ≡ record { number = k * 2 ^ 40; room = unwritten n })
 Holds (completes b xs ps bytes) =
     (pairsBelow b xs ≡ ps)
     × (completionOf b (beWords xs) (unwritten (length bytes + 2)) ≡ record { answer = record { refusal = 0; count = length ps; stopped = false }; room = bytes ++ unwritten 2 })
+    × (hostCompletionOf b (beWords xs) (unwritten (length bytes + 2)) ≡ record { number = length ps; room = bytes ++ unwritten 2 })
 Holds (builds ks n image) =
-    buildOf (keyList ks) (unset n) (unwritten (length image + 2))
-    ≡ record { answer = record { refusal = 0; length = length image }; output = image ++ unwritten 2; work = replicate n 0 }
+    (buildOf (keyList ks) (unset n) (unwritten (length image + 2))
+    ≡ record { answer = record { refusal = 0; length = length image }; output = image ++ unwritten 2; work = replicate n 0 })
+    × (hostBuildOf (keyList ks) (unset n) (unwritten (length image + 2)) .number ≡ length image)
 Holds (build-length ks n m) = buildOf (keyList ks) (unset n) (unwritten m) .answer ≡ record { refusal = 0; length = m }
 Holds (build-refused list n m k) =
     buildOf list (unset n) (unwritten m)
@@ -101,5 +108,5 @@ a and b = (a, b)
 
 -- every definition that a row runs: to unfold this name is to unfold them all
 unfoldable pub computing : Unit {0}
-unfolding anyBelow countBelow le32 be32 leBytes beBytes leWords beWords isScalar maxLabels labelsFrom labelsOf slotUnder codeUnder magic version slotCount childCount mapLength baseWord checkWord isLeaf hasLeaf parent hasParent base valueNumber slotFrom codeTo offset child listWidth mapVersion labelCount labelAt labelOfCode codeFrom codeOf refuseIf firstRefusal unlessRefused tooShort byteDiffers magicDiffers versionWrong reservedSet sizesWrong lengthWrong mapWrong offsetEndsWrong headerRefusal sameLabel labelWrong labelsWrong isUsedFrom2 isUsed ownCode bothZero usedSlotWrong endExists flagWrong slotWrong slotsWrong offsetFalls usedCount entryWrong codeNotAbove entryWrongIn entriesWrong childless rootWrong listsWrong reaches unreachable someUnreachable bodyRefusal imageRefusal isEnd endCount checkOf step stepBy walk walkWithin leafValue valueAt valueReached valueOf longerAt queryRefusal searchRefusal exactValue exactOf lengthMatch matchAt matches prefixMatches prefixesAnswer prefixesOf lastLength longestLength longestOf probeAnswer probeAt probeOf concatFrom entryPairs listFrom pairsAt pairsBelow recordOf recordsOf fitting listingOf listedIn completionAnswer written completionRefusal completionOf refusalPart longerPart valuePart exactNumber probeNumber checkNumber longestNumber comesBefore listVersion keyCount keyLength keyLabel nextKey keyLabels keyAt keysFrom pairsOf noScalarAt notAbove keyRefusal keysRefusal listRefusal insert insertAll labelsUsed contains frequency goesBefore rankIn ranked mapOf codeIn labelWith baseAt checkAt isTakenFrom2 isFree fits firstFitFrom firstFit nextCode childCodes below endValue putChild putChildren putParent settle intoEach place headerBytes mapBytes imageBytes slotsUsed isChild childBy childrenOf childrenIn offsetsFrom imageIn slotsIn placedIn withRoom fromPlaced fromLabels fromKeys outcomeOf answered workAfter buildOf keyRecords keyList p1 p2 nodes3 offsets3 children3 labels3 p3 p7 p8-check p8-slot p9-labels p9-longer p10 p11
+unfolding anyBelow countBelow le32 be32 leBytes beBytes leWords beWords isScalar maxLabels labelsFrom labelsOf slotUnder codeUnder magic version slotCount childCount mapLength baseWord checkWord isLeaf hasLeaf parent hasParent base valueNumber slotFrom codeTo offset child listWidth mapVersion labelCount labelAt labelOfCode codeFrom codeOf refuseIf firstRefusal unlessRefused tooShort byteDiffers magicDiffers versionWrong reservedSet sizesWrong lengthWrong mapWrong offsetEndsWrong headerRefusal sameLabel labelWrong labelsWrong isUsedFrom2 isUsed ownCode bothZero usedSlotWrong endExists flagWrong slotWrong slotsWrong offsetFalls usedCount entryWrong codeNotAbove entryWrongIn entriesWrong childless rootWrong listsWrong reaches unreachable someUnreachable bodyRefusal imageRefusal isEnd endCount checkOf step stepBy walk walkWithin leafValue valueAt valueReached valueOf longerAt queryRefusal searchRefusal exactValue exactOf lengthMatch matchAt matches prefixMatches prefixesAnswer prefixesOf lastLength longestLength longestOf probeAnswer probeAt probeOf concatFrom entryPairs listFrom pairsAt pairsBelow recordOf recordsOf fitting listingOf listedIn completionAnswer written completionRefusal completionOf hostNumber valueNumbered checkNumber exactNumber probeNumber longestNumber placeWords alternately atFront prefixesTo hostPrefixesOf completionNumber hostCompletionOf builtNumber hostBuildOf comesBefore listVersion keyCount keyLength keyLabel nextKey keyLabels keyAt keysFrom pairsOf noScalarAt notAbove keyRefusal keysRefusal listRefusal insert insertAll labelsUsed contains frequency goesBefore rankIn ranked mapOf codeIn labelWith baseAt checkAt isTakenFrom2 isFree fits firstFitFrom firstFit nextCode childCodes below endValue putChild putChildren putParent settle intoEach place headerBytes mapBytes imageBytes slotsUsed isChild childBy childrenOf childrenIn offsetsFrom imageIn slotsIn placedIn withRoom fromPlaced fromLabels fromKeys outcomeOf answered workAfter buildOf keyRecords keyList p1 p2 nodes3 offsets3 children3 labels3 p3 p7 p8-check p8-slot p9-labels p9-longer p10 p11
 computing = tt

@@ -1,0 +1,84 @@
+-- The number that an entry answers is that of the operation's answer.
+use Prim.Native.Nat.{ℕ, _*_, _/_, _≤_}
+use native.Mathlib.Omega.{arith}
+use mathlib.Core.Path.{_≡_, ap, _∙_}
+use mathlib.Core.List.{List}
+use mathlib.Core.Bool.{Bool, true, false}
+use lib.ListN.{length}
+use lib.Seq.{length-take-le}
+use Rattle.lxtr_spec.specs.Labels.{maxLabels}
+use Rattle.lxtr_spec.specs.Refusals.{unlessRefused, checkOf}
+use Rattle.lxtr_spec.specs.Searches.{exactOf, prefixesOf, LongestAnswer, longestLength, longestOf, probeOf}
+use Rattle.lxtr_spec.specs.Completions.{CompletionAnswer, completionOf}
+use Rattle.lxtr_spec.specs.Builds.{BuildAnswer, buildOf}
+use Rattle.lxtr_spec.specs.Answers.{found, exactMeans, probeMeans}
+use Rattle.lxtr_spec.specs.HostNumbers.{hostNumber, valueNumbered, checkNumber, exactNumber, probeNumber, longestNumber, HostPrefixes, alternately, atFront, prefixesTo, hostPrefixesOf, HostCompletion, completionNumber, hostCompletionOf, HostBuild, builtNumber, hostBuildOf}
+use Rattle.lxtr_laws.specs.Refusing.{stands}
+use Rattle.lxtr_search.specs.Kept.{longest-bytes, longest-limit}
+use Rattle.lxtr_spec.specs.declared.Found.{Found}
+use Rattle.lxtr_spec.specs.declared.Found.the-variants.{Is, Nothing}
+use Rattle.lxtr_spec.specs.declared.Verdict.{Verdict}
+use Rattle.lxtr_spec.specs.declared.Exact.{Exact}
+use Rattle.lxtr_spec.specs.declared.Prefixes.{Prefixes}
+use Rattle.lxtr_spec.specs.declared.Probe.{Probe}
+use Rattle.lxtr_spec.specs.declared.Completion.{Completion}
+use Rattle.lxtr_spec.specs.declared.Built.{Built}
+
+-- of a value or none
+module _ (k : ℕ) (more : Bool) (f : Found) (n : ℕ) where
+  pub value-number : (v : ℕ) → f ≡ Is v → n ≡ hostNumber k more true v → n ≡ valueNumbered k more (found f)
+  unfolding valueNumbered
+  value-number v h e = rw h e
+
+  pub none-number : f ≡ Nothing → n ≡ hostNumber k more false 0 → n ≡ valueNumbered k more (found f)
+  unfolding valueNumbered
+  none-number h e = rw h e
+
+module _ (b : List ℕ) where
+  pub check-number : (v : Verdict) (n : ℕ) → v ≡ checkOf b → n ≡ hostNumber (v .refusal) false false (v .pairs) → n ≡ checkNumber b
+  unfolding checkNumber
+  check-number v n e h = rw (← e) h
+
+  module _ (q : List ℕ) where
+    pub exact-number : (a : Exact) (n : ℕ) → exactMeans a ≡ exactOf b q → n ≡ valueNumbered (a .refusal) false (found (a .value)) → n ≡ exactNumber b q
+    unfolding exactNumber
+    exact-number a n e h = rw (← e) h
+
+    pub probe-number : (a : Probe) (n : ℕ) → probeMeans a ≡ probeOf b q → n ≡ valueNumbered (a .refusal) (a .longer) (found (a .value)) → n ≡ probeNumber b q
+    unfolding probeNumber
+    probe-number a n e h = rw (← e) h
+
+    -- the part that longest hands back has four bytes a label
+    module _ (k : ℕ) (part : List ℕ) (e : _≡_ {A = LongestAnswer} (record { refusal = k; part = part }) (longestOf b q)) where
+      longest-labels : length part / 4 ≡ longestLength b q
+      unfolding longestOf
+      longest-labels =
+          let whole : length part ≡ 4 * longestLength b q = ap (λ (a : LongestAnswer). length (a .part)) e ∙ length-take-le (4 * longestLength b q) q (longest-bytes b q) in
+          omega arith
+
+      pub longest-fits : length part / 4 ≤ maxLabels
+      longest-fits = omega (arith, longest-labels, longest-limit b q)
+
+      pub longest-number : (n : ℕ) → n ≡ hostNumber k false false (length part / 4) → n ≡ longestNumber b q
+      unfolding longestNumber longestOf
+      longest-number n h = rw (← longest-labels, ← ap (λ (a : LongestAnswer). a .refusal) e) h
+
+    module _ (p : Prefixes) (n : ℕ) (e : p ≡ prefixesOf b q) (h : n ≡ hostNumber (p .refusal) false false (p .count)) (places : List ℕ) where
+      pub prefixes-refused : (p .refusal ≡ 0 → ⊥) → _≡_ {A = HostPrefixes} (record { number = n; places = places }) (hostPrefixesOf b q places)
+      unfolding hostPrefixesOf prefixesTo
+      prefixes-refused r = rw (← e, stands (p .refusal) (atFront (alternately (p .lengths) (p .values)) places) places r, h)
+
+      pub prefixes-passed : (after : List ℕ) → p .refusal ≡ 0 → after ≡ atFront (alternately (p .lengths) (p .values)) places
+          → _≡_ {A = HostPrefixes} (record { number = n; places = after }) (hostPrefixesOf b q places)
+      unfolding hostPrefixesOf prefixesTo unlessRefused
+      prefixes-passed after z f = rw (← e, h, f, z)
+
+    pub completion-number : (room after : List ℕ) (a : Completion) (n : ℕ) → _≡_ {A = CompletionAnswer} (record { answer = a; room = after }) (completionOf b q room)
+        → n ≡ hostNumber (a .refusal) (a .stopped) false (a .count) → _≡_ {A = HostCompletion} (record { number = n; room = after }) (hostCompletionOf b q room)
+    unfolding hostCompletionOf completionNumber
+    completion-number room after a n e h = rw (← e, h)
+
+pub build-number : (keys work work′ out out′ : List ℕ) (a : Built) (n : ℕ) → _≡_ {A = BuildAnswer} (record { answer = a; output = out′; work = work′ }) (buildOf keys work out)
+    → n ≡ hostNumber (a .refusal) false false (a .length) → _≡_ {A = HostBuild} (record { number = n; output = out′; work = work′ }) (hostBuildOf keys work out)
+unfolding hostBuildOf builtNumber
+build-number keys work work′ out out′ a n e h = rw (← e, h)

@@ -1,0 +1,88 @@
+// The entries for programs in C and Rust: each operation under a plain name, over slices passed as pointer and length, answering
+// one 64-bit number. `include/lxtr.h` declares them and says what each number means.
+mod numbers; // the number that an operation answers
+mod places; // the matches of prefixes as words
+
+ghost use mathlib.Core.Path.{_≡_};
+ghost use Rattle.lxtr_spec.specs.HostNumbers.{checkNumber, exactNumber, probeNumber, longestNumber, hostPrefixesOf, hostCompletionOf, hostBuildOf};
+use crate::numbers::host_number;
+use crate::numbers::value_numbered;
+use crate::places::put_places;
+use lxtr_build::build;
+use lxtr_check::check;
+use lxtr_complete::complete;
+use lxtr_search::exact;
+use lxtr_search::longest;
+use lxtr_search::prefixes;
+use lxtr_search::probe;
+
+// The check: the number of pairs.
+#[no_mangle]
+pub extern "C" fn lxtr_check(image: &[u8]) -> u64
+    ensures { λ r. ⌜ r ≡ checkNumber (now (image .entry)) ⌝ }
+{
+    let verdict = check(image);
+    host_number(verdict.refusal, false, false, verdict.pairs)
+}
+
+// Exact: the value, if there is one.
+#[no_mangle]
+pub extern "C" fn lxtr_exact(image: &[u8], query: &[u8]) -> u64
+    ensures { λ r. ⌜ r ≡ exactNumber (now (image .entry)) (now (query .entry)) ⌝ }
+{
+    let answer = exact(image, query);
+    let value = answer.value;
+    value_numbered(answer.refusal, false, value)
+}
+
+// Probe: the value, if there is one, and whether longer keys exist.
+#[no_mangle]
+pub extern "C" fn lxtr_probe(image: &[u8], query: &[u8]) -> u64
+    ensures { λ r. ⌜ r ≡ probeNumber (now (image .entry)) (now (query .entry)) ⌝ }
+{
+    let answer = probe(image, query);
+    let value = answer.value;
+    value_numbered(answer.refusal, answer.longer, value)
+}
+
+// Longest: the length of the matched front part, in labels.
+#[no_mangle]
+pub extern "C" fn lxtr_longest(image: &[u8], query: &[u8]) -> u64
+    ensures { λ r. ⌜ r ≡ longestNumber (now (image .entry)) (now (query .entry)) ⌝ }
+{
+    let mut refusal: u8 = 0;
+    let part = longest(image, query, &mut refusal);
+    host_number(refusal, false, false, (part.len() / 4) as u32)
+}
+
+// Prefixes: how many there are; their lengths and values alternately in `places`, as far as these go.
+#[no_mangle]
+pub extern "C" fn lxtr_prefixes(image: &[u8], query: &[u8], places: &mut [u32]) -> u64
+    ensures { λ r. ⌜ record { number = r; places = now (places .exit) } ≡ hostPrefixesOf (now (image .entry)) (now (query .entry)) (now (places .entry)) ⌝ }
+{
+    let answer = prefixes(image, query);
+    let number = host_number(answer.refusal, false, false, answer.count);
+    if answer.refusal != 0 {
+        return number;
+    }
+    put_places(&answer.lengths, &answer.values, places);
+    number
+}
+
+// Completions: how many records are in the room, and whether one had none.
+#[no_mangle]
+pub extern "C" fn lxtr_complete(image: &[u8], prefix: &[u8], room: &mut [u8]) -> u64
+    ensures { λ r. ⌜ record { number = r; room = now (room .exit) } ≡ hostCompletionOf (now (image .entry)) (now (prefix .entry)) (now (room .entry)) ⌝ }
+{
+    let answer = complete(image, prefix, room);
+    host_number(answer.refusal, answer.stopped, false, answer.count)
+}
+
+// Building: the length of the image in `out`, in bytes.
+#[no_mangle]
+pub extern "C" fn lxtr_build(keys: &[u8], work: &mut [u32], out: &mut [u8]) -> u64
+    ensures { λ r. ⌜ record { number = r; output = now (out .exit); work = now (work .exit) } ≡ hostBuildOf (now (keys .entry)) (now (work .entry)) (now (out .entry)) ⌝ }
+{
+    let built = build(keys, work, out);
+    host_number(built.refusal, false, false, built.length)
+}
