@@ -1,13 +1,31 @@
-# `make run` proves, builds and runs the programs; `make test` is the gate.
-.PHONY: run test
+# `make run` proves and builds the listing program and lists a sample key list; `make test` is the gate.
+.PHONY: run examples archive host crosscheck test
 
-EXAMPLES = check_examples search_examples completion_examples build_examples
+# What a proof or a compiler says goes to a log, and is shown only where it fails.
+quietly = @mkdir -p target; $(1) > target/make.log 2>&1 || { cat target/make.log; exit 1; }
 
 run:
-	@mkdir -p target
-	@rt check $(EXAMPLES) list_pairs > target/run.log 2>&1 || { cat target/run.log; exit 1; }
+	$(call quietly,rt check list_pairs)
+	@target/bin/list_pairs < samples/goods.keys
+
+# The programs that run document 01's examples.
+EXAMPLES = header_refusals check_examples search_examples completion_examples build_examples
+
+examples:
+	$(call quietly,rt check $(EXAMPLES))
 	@for program in $(EXAMPLES); do target/bin/$$program; done
-	@target/bin/list_pairs < crates/list_pairs/stdin
+
+# target/staticlib/liblxtr_c.a, for programs in C.
+archive:
+	$(call quietly,rt staticlib lxtr_c)
+
+host: archive
+	$(call quietly,bash .ci/host)
+	@cat target/host/stdout
+
+crosscheck: archive
+	$(call quietly,rt check list_pairs)
+	@bash .ci/crosscheck
 
 test:
 	@bash .ci/run

@@ -1,0 +1,76 @@
+//! The seven functions in the archive's form: bytes and lent memory in, one
+//! number out. That number is refusal * 2^40 plus what the function found.
+
+use crate::builder;
+use crate::check;
+use crate::common::{Refusal, KEY_LABELS};
+use crate::completion;
+use crate::rules::{Rules, Wrong};
+use crate::search;
+
+const REFUSAL: u64 = 1 << 40;
+/// Longer keys exist, or a listing stopped.
+const MORE: u64 = 1 << 33;
+const VALUE: u64 = 1 << 32;
+/// Words of `places`: a length and a value for each length from 0 to 64.
+pub const PLACE_WORDS: usize = 2 * (KEY_LABELS + 1);
+
+fn number<T>(result: Result<T, Refusal>, found: impl FnOnce(T) -> u64) -> u64 {
+    match result {
+        Ok(answer) => found(answer),
+        Err(Refusal(number)) => u64::from(number) * REFUSAL,
+    }
+}
+
+fn value_number(value: Option<u32>) -> u64 {
+    value.map_or(0, |value| VALUE + u64::from(value))
+}
+
+fn flag(more: bool) -> u64 {
+    if more {
+        MORE
+    } else {
+        0
+    }
+}
+
+pub fn check(rules: Rules, image: &[u8]) -> u64 {
+    number(check::check(rules, image), |pairs| pairs as u64)
+}
+
+pub fn exact(rules: Rules, image: &[u8], query: &[u8]) -> u64 {
+    number(search::exact(rules, image, query), value_number)
+}
+
+pub fn probe(rules: Rules, image: &[u8], query: &[u8]) -> u64 {
+    number(search::probe(rules, image, query), |probe| {
+        flag(probe.longer_keys) + value_number(probe.value)
+    })
+}
+
+pub fn longest(rules: Rules, image: &[u8], query: &[u8]) -> u64 {
+    number(search::longest(rules, image, query), |front| front.len() as u64 / 4)
+}
+
+/// `places` holds the front of 65 pairs of length and value, as far as it goes.
+pub fn prefixes(rules: Rules, image: &[u8], query: &[u8], places: &mut [u32]) -> u64 {
+    number(search::prefixes(rules, image, query), |matches| {
+        let mut words: Vec<u32> =
+            matches.iter().flat_map(|found| [found.0 as u32, found.1]).collect();
+        if rules.keeps(Wrong::PlacesBehindStay) {
+            words.resize(PLACE_WORDS, 0);
+        }
+        places.iter_mut().zip(words).for_each(|(place, word)| *place = word);
+        matches.len() as u64
+    })
+}
+
+pub fn complete(rules: Rules, image: &[u8], prefix: &[u8], room: &mut [u8]) -> u64 {
+    number(completion::complete(rules, image, prefix, room), |completed| {
+        flag(completed.stopped) + u64::from(completed.count)
+    })
+}
+
+pub fn build(rules: Rules, keys: &[u8], work: &mut [u32], out: &mut [u8]) -> u64 {
+    number(builder::build(rules, keys, work, out), |length| length as u64)
+}

@@ -1,0 +1,143 @@
+//! The implementation under test: the archive's C functions and the listing program.
+
+use crate::call::{number_of_text, Call};
+use crate::lent::Lent;
+use std::io::Write;
+use std::path::PathBuf;
+use std::process::{Command, Stdio};
+
+#[link(name = "lxtr_c", kind = "static")]
+extern "C" {
+    fn lxtr_check(image: *const u8, image_len: usize) -> u64;
+    fn lxtr_exact(image: *const u8, image_len: usize, query: *const u8, query_len: usize) -> u64;
+    fn lxtr_probe(image: *const u8, image_len: usize, query: *const u8, query_len: usize) -> u64;
+    fn lxtr_longest(image: *const u8, image_len: usize, query: *const u8, query_len: usize) -> u64;
+    fn lxtr_prefixes(
+        image: *const u8,
+        image_len: usize,
+        query: *const u8,
+        query_len: usize,
+        places: *mut u32,
+        places_len: usize,
+    ) -> u64;
+    fn lxtr_complete(
+        image: *const u8,
+        image_len: usize,
+        prefix: *const u8,
+        prefix_len: usize,
+        room: *mut u8,
+        room_len: usize,
+    ) -> u64;
+    fn lxtr_build(
+        keys: *const u8,
+        keys_len: usize,
+        work: *mut u32,
+        work_len: usize,
+        out: *mut u8,
+        out_len: usize,
+    ) -> u64;
+}
+
+/// A copy of an input at any alignment, among bytes that are not its own.
+#[derive(Default)]
+struct InputCopy {
+    bytes: Vec<u8>,
+    from: usize,
+    len: usize,
+}
+
+impl InputCopy {
+    fn hold(&mut self, input: &[u8]) {
+        self.from = 16 + (self.from + 1) % 8;
+        self.len = input.len();
+        self.bytes.clear();
+        self.bytes.resize(self.from, 0xA5);
+        self.bytes.extend_from_slice(input);
+        self.bytes.resize(self.bytes.len() + 16, 0x5A);
+    }
+
+    fn input(&self) -> &[u8] {
+        &self.bytes[self.from..self.from + self.len]
+    }
+
+    fn pointer(&mut self) -> *const u8 {
+        self.bytes[self.from..].as_mut_ptr()
+    }
+}
+
+/// What came back from the implementation under test.
+pub struct Answered {
+    pub answer: u64,
+    /// Whether the read-only inputs are as they were.
+    pub inputs_intact: bool,
+}
+
+#[derive(Default)]
+pub struct Archive {
+    first: InputCopy,
+    second: InputCopy,
+}
+
+impl Archive {
+    /// Answers a call into memory prepared here.
+    pub fn answer(&mut self, call: &Call, lent: &mut Lent) -> Answered {
+        if let Call::List { input } = call {
+            return Answered { answer: list(input, lent), inputs_intact: true };
+        }
+        let (first, second) = call.inputs();
+        self.first.hold(first);
+        self.second.hold(second);
+        call.prepare(lent);
+        let answer = self.call(call, lent);
+        let inputs_intact = self.first.input() == first && self.second.input() == second;
+        Answered { answer, inputs_intact }
+    }
+
+    fn call(&mut self, call: &Call, lent: &mut Lent) -> u64 {
+        let (a, a_len) = (self.first.pointer(), self.first.len);
+        let (b, b_len) = (self.second.pointer(), self.second.len);
+        let (bytes, words) = lent.parts();
+        let (bytes_len, words_len) = (bytes.len(), words.len());
+        let (bytes, words) = (bytes.as_mut_ptr(), words.as_mut_ptr());
+        // SAFETY: each pointer is valid for its length, and no two parts overlap.
+        unsafe {
+            match call {
+                Call::Check { .. } => lxtr_check(a, a_len),
+                Call::Exact { .. } => lxtr_exact(a, a_len, b, b_len),
+                Call::Probe { .. } => lxtr_probe(a, a_len, b, b_len),
+                Call::Longest { .. } => lxtr_longest(a, a_len, b, b_len),
+                Call::Prefixes { .. } => lxtr_prefixes(a, a_len, b, b_len, words, words_len),
+                Call::Complete { .. } => lxtr_complete(a, a_len, b, b_len, bytes, bytes_len),
+                Call::Build { .. } => lxtr_build(a, a_len, words, words_len, bytes, bytes_len),
+                Call::List { .. } => unreachable!("the program is run, not called"),
+            }
+        }
+    }
+}
+
+/// Where the listing program lies.
+fn program() -> PathBuf {
+    PathBuf::from(env!("CARGO_MANIFEST_DIR")).join("../target/bin/list_pairs")
+}
+
+/// Runs the listing program; its text, or why there is none, goes to `lent`.
+fn list(input: &[u8], lent: &mut Lent) -> u64 {
+    let text = run(input).unwrap_or_else(|error| format!("not run: {error}").into_bytes());
+    lent.put_text(&text);
+    number_of_text(&String::from_utf8_lossy(&text))
+}
+
+fn run(input: &[u8]) -> std::io::Result<Vec<u8>> {
+    let mut command = Command::new(program());
+    let mut child =
+        command.stdin(Stdio::piped()).stdout(Stdio::piped()).stderr(Stdio::null()).spawn()?;
+    if let Some(mut stdin) = child.stdin.take() {
+        // The program may stop reading where the input is too long.
+        let _ = stdin.write_all(input);
+    }
+    let output = child.wait_with_output()?;
+    match output.status.code() {
+        Some(_) => Ok(output.stdout),
+        None => Err(std::io::Error::other("ended by a signal")),
+    }
+}

@@ -1,0 +1,220 @@
+//! Runs calls through both implementations and keeps the score: differences,
+//! refusals seen, and which wrong variants were noticed.
+
+use crate::archive::{Answered, Archive};
+use crate::call::{Call, Function};
+use crate::lent::Lent;
+use crosscheck::common::query_of;
+use crosscheck::image::Image;
+use crosscheck::oracle::{self, Pair};
+use crosscheck::rules::{Rules, Wrong};
+
+const SHOWN_DIFFERENCES: u64 = 10;
+
+/// A wrong variant, and the comparison that told it from the paper.
+struct Variant {
+    wrong: Wrong,
+    noticed: Option<(u64, Function)>,
+}
+
+pub struct Comparison {
+    seed: u64,
+    archive: Archive,
+    real: Lent,
+    expected: Lent,
+    stage: &'static str,
+    pub compared: u64,
+    different: u64,
+    /// Requirements beyond the comparisons that did not hold.
+    unmet: u64,
+    /// How often each function gave each refusal, 0 for none.
+    seen: [[u64; 24]; Function::ALL.len()],
+    variants: Vec<Variant>,
+    oracle: OracleScore,
+}
+
+/// Images held against the set oracle.
+#[derive(Default)]
+struct OracleScore {
+    images: u64,
+    with_set: u64,
+}
+
+impl Comparison {
+    pub fn new(seed: u64) -> Comparison {
+        let variant = |wrong: &Wrong| Variant { wrong: *wrong, noticed: None };
+        Comparison {
+            seed,
+            archive: Archive::default(),
+            real: Lent::default(),
+            expected: Lent::default(),
+            stage: "",
+            compared: 0,
+            different: 0,
+            unmet: 0,
+            seen: [[0; 24]; Function::ALL.len()],
+            variants: Wrong::ALL.iter().map(variant).collect(),
+            oracle: OracleScore::default(),
+        }
+    }
+
+    /// Begins a stage; gives how many comparisons were made before it.
+    pub fn enter(&mut self, stage: &'static str) -> u64 {
+        self.stage = stage;
+        self.compared
+    }
+
+    /// Compares one call in its answer and all lent memory; gives the archive's answer.
+    pub fn call(&mut self, call: Call) -> u64 {
+        let answered = self.archive.answer(&call, &mut self.real);
+        let expected = call.by_rules(Rules::PAPER, &mut self.expected);
+        if self.score(&call, &answered, expected) {
+            self.try_variants(&call, answered.answer);
+        }
+        answered.answer
+    }
+
+    /// Counts a comparison and shows it if it failed; says whether all was the same.
+    fn score(&mut self, call: &Call, answered: &Answered, expected: u64) -> bool {
+        let answer = answered.answer;
+        let same = answered.inputs_intact && answer == expected && self.real == self.expected;
+        self.compared += 1;
+        let refusal = (answer >> 40) as usize;
+        if let Some(count) = self.seen[call.function() as usize].get_mut(refusal) {
+            *count += 1;
+        }
+        if !same {
+            self.different += 1;
+            self.show(call, answer, expected);
+        }
+        same
+    }
+
+    /// Counts and shows what must hold of the archive's answers besides equality.
+    pub fn require(&mut self, holds: bool, else_say: &str) {
+        if holds {
+            return;
+        }
+        self.unmet += 1;
+        if self.different + self.unmet <= SHOWN_DIFFERENCES {
+            println!("UNMET: {else_say} ({}, seed {})", self.stage, self.seed);
+        }
+    }
+
+    fn show(&self, call: &Call, answer: u64, expected: u64) {
+        if self.different + self.unmet > SHOWN_DIFFERENCES {
+            return;
+        }
+        let place = self.real.first_difference(&self.expected);
+        println!("DIFFERENCE in {}: {}, seed {}", call.function().name(), self.stage, self.seed);
+        println!("  input: {}", call.describe());
+        println!("  answers: {answer:#x}, expected {expected:#x}");
+        println!("  memory: {}", place.as_deref().unwrap_or("no difference, or an input changed"));
+    }
+
+    /// Holds the wrong variants not yet noticed against the archive's answer.
+    fn try_variants(&mut self, call: &Call, answer: u64) {
+        for variant in self.variants.iter_mut().filter(|variant| variant.noticed.is_none()) {
+            let wrong = call.by_rules(Rules::breaking(variant.wrong), &mut self.expected);
+            if wrong != answer || self.expected != self.real {
+                variant.noticed = Some((self.compared, call.function()));
+            }
+        }
+    }
+
+    /// Compares the check of an image, and holds its answer against the set oracle.
+    pub fn image(&mut self, image: &[u8]) -> u64 {
+        let check = Call::Check { image };
+        let answer = self.call(check);
+        let Ok(parsed) = Image::parse(Rules::PAPER, image) else {
+            return answer;
+        };
+        self.oracle.images += 1;
+        match oracle::set_of(&parsed) {
+            Some(set) if answer == set.len() as u64 => {
+                self.oracle.with_set += 1;
+                self.whole_set(image, &set);
+            }
+            None if answer >> 40 != 0 => {}
+            set => {
+                self.require(false, "the set oracle decides otherwise");
+                self.show(&check, answer, set.map_or(u64::MAX, |set| set.len() as u64));
+            }
+        }
+        answer
+    }
+
+    /// Completing the empty prefix with room enough must list exactly the set.
+    fn whole_set(&mut self, image: &[u8], set: &[Pair]) {
+        let mut records = vec![1];
+        records.extend(query_of(&[set.len() as u32]));
+        for pair in set {
+            records.push(pair.labels.len() as u8);
+            records.extend(query_of(&pair.labels));
+            records.extend(query_of(&[pair.value]));
+        }
+        let call = Call::Complete { image, prefix: &[], room: records.len() };
+        let answered = self.archive.answer(&call, &mut self.real);
+        call.prepare(&mut self.expected);
+        self.expected.bytes().copy_from_slice(&records);
+        self.score(&call, &answered, set.len() as u64);
+    }
+
+    /// Prints the tables; gives how many comparisons and variants came out right and wrong.
+    pub fn report(&self) -> (u64, u64) {
+        self.print_refusals();
+        println!("set oracle: {} images, {} with a set", self.oracle.images, self.oracle.with_set);
+        let never = self.never_seen();
+        let unnoticed = self.print_variants();
+        let right = self.compared - self.different + (self.variants.len() as u64 - unnoticed);
+        println!(
+            "comparisons: {}, different: {}, unmet: {}",
+            self.compared, self.different, self.unmet
+        );
+        (right, self.different + self.unmet + unnoticed + never)
+    }
+
+    fn print_refusals(&self) {
+        println!("how often each refusal (0: none) came from each function, - where it cannot");
+        let names: String =
+            Function::ALL.iter().map(|function| format!("{:>9}", function.name())).collect();
+        println!("   {names}");
+        for number in 0..24 {
+            let cell = |function: &Function| match self.seen[*function as usize][number] {
+                0 if number > 0 && !function.can_refuse(number) => format!("{:>9}", "-"),
+                count => format!("{count:>9}"),
+            };
+            println!("{number:>3}{}", Function::ALL.iter().map(cell).collect::<String>());
+        }
+    }
+
+    /// Prints and counts the refusals that a function can give and never gave.
+    fn never_seen(&self) -> u64 {
+        let mut never = 0;
+        for function in Function::ALL {
+            for number in (1..24).filter(|number| function.can_refuse(*number)) {
+                if self.seen[function as usize][number] == 0 {
+                    println!("NEVER SEEN: refusal {number} from {}", function.name());
+                    never += 1;
+                }
+            }
+        }
+        never
+    }
+
+    /// Prints the wrong variants; counts those that were not noticed.
+    fn print_variants(&self) -> u64 {
+        for variant in &self.variants {
+            let (wrong, what) = (format!("{:?}", variant.wrong), variant.wrong.what());
+            match variant.noticed {
+                Some((after, function)) => {
+                    println!("{wrong:<22} noticed at {after:>7} in {:<8}  {what}", function.name());
+                }
+                None => println!("{wrong:<22} NOT NOTICED  {what}"),
+            }
+        }
+        let noticed = self.variants.iter().filter(|variant| variant.noticed.is_some()).count();
+        println!("wrong variants: {noticed} of {} noticed", self.variants.len());
+        (self.variants.len() - noticed) as u64
+    }
+}

@@ -1,0 +1,75 @@
+//! Memory lent for one call, between guard zones and prefilled, so that every
+//! byte a call writes, and every byte it should have left, can be compared.
+
+use std::sync::OnceLock;
+
+const GUARD: usize = 32;
+
+/// Never zero, and different from place to place.
+fn byte_pattern() -> &'static [u8] {
+    static PATTERN: OnceLock<Vec<u8>> = OnceLock::new();
+    PATTERN.get_or_init(|| {
+        (0..2_000_000).map(|at: usize| ((at * 151 + at / 255) % 255 + 1) as u8).collect()
+    })
+}
+
+/// Odd, so never zero, and different from place to place.
+fn word_pattern() -> &'static [u32] {
+    static PATTERN: OnceLock<Vec<u32>> = OnceLock::new();
+    PATTERN.get_or_init(|| (1..400_000).map(|at: u32| at.wrapping_mul(0x9E37_79B9) | 1).collect())
+}
+
+/// Lent bytes (room or output) and lent words (places or work).
+#[derive(Default, PartialEq, Eq)]
+pub struct Lent {
+    bytes: Vec<u8>,
+    words: Vec<u32>,
+}
+
+impl Lent {
+    /// Guard zones around `bytes` bytes and `words` words, all prefilled.
+    pub fn prepare(&mut self, bytes: usize, words: usize) {
+        self.bytes.clear();
+        self.bytes.extend_from_slice(&byte_pattern()[..bytes + 2 * GUARD]);
+        self.words.clear();
+        self.words.extend_from_slice(&word_pattern()[..words + 2 * GUARD]);
+    }
+
+    /// The lent bytes, without the guard zones.
+    pub fn bytes(&mut self) -> &mut [u8] {
+        self.parts().0
+    }
+
+    /// The lent words, without the guard zones.
+    pub fn words(&mut self) -> &mut [u32] {
+        self.parts().1
+    }
+
+    pub fn parts(&mut self) -> (&mut [u8], &mut [u32]) {
+        let (bytes, words) = (self.bytes.len() - GUARD, self.words.len() - GUARD);
+        (&mut self.bytes[GUARD..bytes], &mut self.words[GUARD..words])
+    }
+
+    /// Holds a program's text in place of lent bytes.
+    pub fn put_text(&mut self, text: &[u8]) {
+        self.prepare(text.len(), 0);
+        self.bytes().copy_from_slice(text);
+    }
+
+    /// Where and how two memories first differ, places counted from the lent slice.
+    pub fn first_difference(&self, other: &Lent) -> Option<String> {
+        let at = |place: usize| place as isize - GUARD as isize;
+        let byte = self.bytes.iter().zip(&other.bytes).position(|(a, b)| a != b);
+        let word = self.words.iter().zip(&other.words).position(|(a, b)| a != b);
+        if let Some(place) = byte {
+            let (a, b) = (self.bytes[place], other.bytes[place]);
+            return Some(format!("byte {}: {a:02X} and {b:02X}", at(place)));
+        }
+        if let Some(place) = word {
+            let (a, b) = (self.words[place], other.words[place]);
+            return Some(format!("word {}: {a:08X} and {b:08X}", at(place)));
+        }
+        let lengths = (self.bytes.len(), other.bytes.len());
+        (lengths.0 != lengths.1).then(|| format!("lengths {} and {}", lengths.0, lengths.1))
+    }
+}

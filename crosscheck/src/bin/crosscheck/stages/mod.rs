@@ -1,0 +1,12 @@
+//! The inputs, stage by stage.
+
+pub mod bad_lists;
+pub mod damaged;
+pub mod edges;
+pub mod large;
+pub mod lists;
+pub mod paper;
+pub mod placed;
+pub mod program;
+pub mod tiny;
+pub mod wild;

@@ -1,0 +1,116 @@
+//! Small things taken whole: every change of one byte in an image, every image of
+//! three slots over a few words, every set of the shortest keys.
+
+use crate::call::Call;
+use crate::comparison::Comparison;
+use crate::explore::{complete_at_every_size, search};
+use crate::keysets::all_strings;
+use crosscheck::builder::image_of;
+use crosscheck::common::query_of;
+use crosscheck::image::{CodeMap, Image, Lists, Node, TOP_BIT};
+use crosscheck::keylist::{to_bytes, Key};
+use crosscheck::rules::Rules;
+
+pub fn run(comparison: &mut Comparison) {
+    let p3 = to_bytes(&[vec![0x6E], vec![0x6E, 0x61]]);
+    let image = image_of(Rules::PAPER, &p3, 64).expect("the example builds").to_bytes();
+    every_byte_changed(comparison, &image);
+    two_bytes_changed(comparison, &image);
+    every_length(comparison, &image);
+    three_slots(comparison);
+    short_key_sets(comparison);
+}
+
+/// Every byte takes every value; each kind of call meets every byte.
+fn every_byte_changed(comparison: &mut Comparison, image: &[u8]) {
+    let query = query_of(&[0x6E, 0x61]);
+    for at in 0..image.len() {
+        let mut changed = image.to_vec();
+        for value in 0..=255 {
+            changed[at] = value;
+            comparison.image(&changed);
+            if value % 32 == 0 || value == image[at] ^ 1 || value == 255 {
+                search(comparison, &changed, &query, 130);
+                comparison.call(Call::Complete { image: &changed, prefix: &query[..4], room: 60 });
+                comparison.call(Call::Complete { image: &changed, prefix: &query[..3], room: 4 });
+            }
+        }
+    }
+}
+
+/// Two faults in the header or the map's head, in every order: the earlier refusal counts.
+fn two_bytes_changed(comparison: &mut Comparison, image: &[u8]) {
+    let map_at = image.len() - 13;
+    let places: Vec<usize> = (0..24).chain(map_at..map_at + 6).collect();
+    for &at in &places {
+        for &other in &places {
+            let mut changed = image.to_vec();
+            changed[at] ^= 1;
+            changed[other] ^= 0x80;
+            comparison.image(&changed);
+        }
+    }
+}
+
+fn every_length(comparison: &mut Comparison, image: &[u8]) {
+    for length in 0..=image.len() {
+        let image = &image[..length];
+        comparison.image(image);
+        search(comparison, image, &query_of(&[0x6E, 0x61]), 130);
+        comparison.call(Call::Complete { image, prefix: &[], room: 60 });
+    }
+}
+
+/// Slots 1 and 2 over a few words, with lists right and wrong.
+fn three_slots(comparison: &mut Comparison) {
+    let bases = [0, 1, 2, 3, TOP_BIT, TOP_BIT | 2];
+    let checks = [0, 1, 2, TOP_BIT, TOP_BIT | 1, TOP_BIT | 2];
+    let lists: [(&[u32], &[u32]); 6] = [
+        (&[0, 0, 0, 0], &[]),
+        (&[0, 0, 1, 1], &[2]),
+        (&[0, 0, 0, 1], &[2]),
+        (&[0, 1, 1, 1], &[2]),
+        (&[0, 0, 1, 1], &[1]),
+        (&[0, 1, 0, 1], &[2]),
+    ];
+    let lists = lists
+        .map(|(offsets, children)| Lists { offsets: offsets.into(), children: children.into() });
+    let node = |&base| checks.map(|check| Node { base, check });
+    let words: Vec<Node> = bases.iter().flat_map(node).collect();
+    for labels in [&[][..], &[0x61], &[0x61, 0x62, 0x63]] {
+        let map = CodeMap::new(Rules::PAPER, labels.to_vec());
+        for (&first, &second) in
+            words.iter().flat_map(|first| words.iter().map(move |x| (first, x)))
+        {
+            for lists in lists.iter().cloned() {
+                let nodes = vec![Node::default(), first, second];
+                comparison.image(&Image { nodes, lists, map: map.clone() }.to_bytes());
+            }
+        }
+    }
+}
+
+/// Every set of keys of up to two labels over the smallest and the largest label.
+fn short_key_sets(comparison: &mut Comparison) {
+    let up_to = |alphabet: &[u32], longest: usize| {
+        let mut keys: Vec<Key> = (0..=longest).flat_map(|at| all_strings(alphabet, at)).collect();
+        keys.sort();
+        keys
+    };
+    let keys = up_to(&[0, 0x10_FFFF], 2);
+    let queries = up_to(&[0, 0x61, 0x10_FFFF], 3);
+    for chosen in 0..1 << keys.len() {
+        let in_set = |place: &usize| chosen >> place & 1 == 1;
+        let set: Vec<Key> = (0..keys.len()).filter(in_set).map(|at| keys[at].clone()).collect();
+        let list = to_bytes(&set);
+        for work in 0..40 {
+            comparison.call(Call::Build { keys: &list, work, out: 400 });
+        }
+        let image = image_of(Rules::PAPER, &list, 400).expect("short keys build").to_bytes();
+        comparison.image(&image);
+        for query in queries.iter().map(|labels| query_of(labels)) {
+            search(comparison, &image, &query, 130);
+        }
+        complete_at_every_size(comparison, &image, &[]);
+    }
+}

@@ -1,0 +1,215 @@
+//! The builder: an explicit trie, placed by first fit over a bitmap of free slots.
+
+use crate::common::{refuse_if, Refusal, LISTED_LABELS, SLOTS};
+use crate::image::{CodeMap, Image, Node, TOP_BIT};
+use crate::keylist::{self, Key};
+use crate::rules::{Rules, Wrong};
+use std::cmp::Reverse;
+use std::collections::{BTreeMap, BTreeSet, HashMap, VecDeque};
+
+/// Builds into `out` and leaves `work` as document 01 says; answers the image's length.
+pub fn build(
+    rules: Rules,
+    list: &[u8],
+    work: &mut [u32],
+    out: &mut [u8],
+) -> Result<usize, Refusal> {
+    let image = image_of(rules, list, work.len());
+    let built = image.and_then(|image| deliver(rules, &image.to_bytes(), out));
+    let cleared = match built {
+        Ok(_) => true,
+        Err(Refusal(21)) => rules.breaks(Wrong::WorkClearedBy21),
+        Err(_) => rules.keeps(Wrong::WorkLeftByRefusal),
+    };
+    if cleared {
+        work.fill(0);
+    }
+    built
+}
+
+/// Refusal 23, or the image at the front of the output.
+fn deliver(rules: Rules, image: &[u8], out: &mut [u8]) -> Result<usize, Refusal> {
+    let needed = image.len() + rules.either(0, Wrong::OutputWantsSpareByte, 1);
+    if out.len() < needed {
+        if rules.breaks(Wrong::OutputTouchedBy23) {
+            out.copy_from_slice(&image[..out.len()]);
+        }
+        return Err(Refusal(23));
+    }
+    out[..image.len()].copy_from_slice(image);
+    if rules.breaks(Wrong::OutputBehindCleared) {
+        out[image.len()..].fill(0);
+    }
+    Ok(image.len())
+}
+
+/// The image of a key list with work of `words` words; every refusal but 23.
+pub fn image_of(rules: Rules, list: &[u8], words: usize) -> Result<Image, Refusal> {
+    refuse_if(words < rules.either(4, Wrong::WorkLimit3, 3), 21)?;
+    let keys = keylist::parse(rules, list)?;
+    let labels = labels_by_frequency(rules, &keys);
+    let too_many =
+        labels.len() > rules.either(LISTED_LABELS, Wrong::LabelLimit4094, LISTED_LABELS - 1);
+    refuse_if(too_many && rules.keeps(Wrong::PlacedBeforeCounted), 20)?;
+    let map = CodeMap::new(rules, labels);
+    let slots = rules.either(words / 2, Wrong::SlotForEachWord, words).min(SLOTS);
+    let nodes = place(rules, &Trie::of(&keys, &map), slots).ok_or(Refusal(22))?;
+    refuse_if(too_many, 20)?;
+    let mut image = Image { nodes, map, ..Image::default() };
+    image.relist();
+    Ok(image)
+}
+
+/// The used labels in the order of their codes.
+fn labels_by_frequency(rules: Rules, keys: &[Key]) -> Vec<u32> {
+    let mut frequency: HashMap<u32, usize> = HashMap::new();
+    for key in keys {
+        let once: BTreeSet<u32> = key.iter().copied().collect();
+        let counted =
+            rules.either(once.into_iter().collect(), Wrong::EachOccurrenceCounts, key.clone());
+        for label in counted {
+            *frequency.entry(label).or_default() += 1;
+        }
+    }
+    let mut labels: Vec<u32> = frequency.keys().copied().collect();
+    let tie = |label: u32| rules.either(label, Wrong::TiesByLargerLabel, u32::MAX - label);
+    labels.sort_by_key(|label| (Reverse(frequency[label]), tie(*label)));
+    labels
+}
+
+/// What a code leads to.
+#[derive(Clone, Copy)]
+enum Below {
+    End { value: u32 },
+    Inner { id: usize },
+}
+
+/// The codes below each inner place; the first place is the empty prefix.
+struct Trie {
+    inner: Vec<BTreeMap<u32, Below>>,
+}
+
+impl Trie {
+    fn of(keys: &[Key], map: &CodeMap) -> Trie {
+        let mut trie = Trie { inner: vec![BTreeMap::new()] };
+        for (key, value) in keys.iter().zip(0..) {
+            let codes =
+                key.iter().map(|label| map.code(*label).expect("every used label is listed"));
+            let last = codes.fold(0, |from, code| trie.child(from, code));
+            trie.inner[last].insert(0, Below::End { value });
+        }
+        trie
+    }
+
+    fn child(&mut self, from: usize, code: u32) -> usize {
+        let next = self.inner.len();
+        match self.inner[from].entry(code).or_insert(Below::Inner { id: next }) {
+            Below::Inner { id } if *id < next => *id,
+            _ => {
+                self.inner.push(BTreeMap::new());
+                next
+            }
+        }
+    }
+}
+
+/// Gives every place its slot; the nodes end with the highest taken slot.
+fn place(rules: Rules, trie: &Trie, slots: usize) -> Option<Vec<Node>> {
+    let mut free = FreeSlots::new(rules, slots);
+    let mut nodes = vec![Node::default(); 2];
+    let mut ahead = VecDeque::from([(0, 1)]);
+    while let Some((id, slot)) = next_place(rules, &mut ahead) {
+        let below = &trie.inner[id];
+        let codes: Vec<u32> = below.keys().copied().collect();
+        let base = if codes.is_empty() { 0 } else { free.first_fit(rules, &codes)? };
+        nodes[slot].base = base;
+        // In falling order, so that the smallest code comes off the back first.
+        for (code, child) in below.iter().rev() {
+            let taken = (base ^ code) as usize;
+            free.take(taken);
+            nodes.resize(nodes.len().max(taken + 1), Node::default());
+            nodes[taken].check = slot as u32;
+            match *child {
+                Below::Inner { id } => ahead.push_back((id, taken)),
+                Below::End { value } => {
+                    nodes[taken].base = TOP_BIT | value;
+                    nodes[slot].check |= TOP_BIT;
+                }
+            }
+        }
+    }
+    Some(nodes)
+}
+
+/// The place and slot to go into: the deepest one met last, before its siblings.
+fn next_place(rules: Rules, ahead: &mut VecDeque<(usize, usize)>) -> Option<(usize, usize)> {
+    if rules.breaks(Wrong::BreadthFirst) {
+        return ahead.pop_front();
+    }
+    ahead.pop_back()
+}
+
+/// One bit for each slot that a child may still have.
+struct FreeSlots {
+    words: Vec<u64>,
+}
+
+impl FreeSlots {
+    fn new(rules: Rules, slots: usize) -> FreeSlots {
+        let mut words = vec![0; SLOTS / 64];
+        words[..slots / 64].fill(u64::MAX);
+        if let Some(word) = words.get_mut(slots / 64) {
+            *word = (1 << (slots % 64)) - 1;
+        }
+        words[0] &= rules.either(!0b11, Wrong::Slot1IsFree, !0b01);
+        FreeSlots { words }
+    }
+
+    fn take(&mut self, slot: usize) {
+        self.words[slot / 64] &= !(1 << (slot % 64));
+    }
+
+    /// The smallest base for which every code's slot is free.
+    fn first_fit(&self, rules: Rules, codes: &[u32]) -> Option<u32> {
+        let fits = |block: u32| (64 * block, self.fitting(rules, block, codes));
+        let mut fitting = (0..SLOTS as u32 / 64).map(fits).filter(|(_, fits)| *fits != 0);
+        if rules.keeps(Wrong::LargestBase) {
+            return fitting.next().map(|(base, fits)| base + fits.trailing_zeros());
+        }
+        fitting.next_back().map(|(base, fits)| base + fits.ilog2())
+    }
+
+    /// The bases from 64 * `block` up, one bit each, for which all codes fit.
+    /// Base 64b + i and code 64c + j meet in slot 64(b ^ c) + (i ^ j), so one
+    /// word of free slots, its bits moved by XOR, answers for all 64 bases.
+    fn fitting(&self, rules: Rules, block: u32, codes: &[u32]) -> u64 {
+        let from_1 = block == 0 && rules.breaks(Wrong::BaseFrom1);
+        let mut fits = if from_1 { !1 } else { u64::MAX };
+        for code in codes {
+            fits &= xor_moved(self.words[(block ^ (code / 64)) as usize], code % 64);
+            if fits == 0 {
+                break;
+            }
+        }
+        fits
+    }
+}
+
+/// Moves bit i of a word to bit i XOR `by`, by swapping neighbouring groups.
+fn xor_moved(mut word: u64, by: u32) -> u64 {
+    const LOWER_HALVES: [u64; 6] = [
+        0x5555_5555_5555_5555,
+        0x3333_3333_3333_3333,
+        0x0F0F_0F0F_0F0F_0F0F,
+        0x00FF_00FF_00FF_00FF,
+        0x0000_FFFF_0000_FFFF,
+        0x0000_0000_FFFF_FFFF,
+    ];
+    for (bit, lower) in LOWER_HALVES.iter().enumerate() {
+        let width = 1 << bit;
+        if by & width != 0 {
+            word = (word & lower) << width | (word >> width) & lower;
+        }
+    }
+    word
+}

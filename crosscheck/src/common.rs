@@ -1,0 +1,46 @@
+//! Limits, refusals and big-endian numbers, as every part of document 01 uses them.
+
+/// Labels in a key, at most.
+pub const KEY_LABELS: usize = 64;
+/// Labels listed in a code map, at most.
+pub const LISTED_LABELS: usize = 4_095;
+/// Slots of an image, at most.
+pub const SLOTS: usize = 65_536;
+/// Keys of a key list, at most.
+pub const KEYS: u32 = 32_768;
+/// Steps from an end to slot 1, at most: one for each label, one for the end.
+pub const STEPS: u32 = 65;
+
+/// A refusal by its number in document 01.
+#[derive(Clone, Copy, Debug, PartialEq, Eq)]
+pub struct Refusal(pub u8);
+
+/// Refuses with `number` when `fault` holds. Written one after the other with
+/// `?`, such lines are the paper's order of refusals.
+pub fn refuse_if(fault: bool, number: u8) -> Result<(), Refusal> {
+    if fault {
+        Err(Refusal(number))
+    } else {
+        Ok(())
+    }
+}
+
+/// Whether a number is a Unicode scalar value.
+pub fn is_scalar(label: u32) -> bool {
+    char::from_u32(label).is_some()
+}
+
+/// The number in the first four of `bytes`.
+pub fn big_endian(bytes: &[u8]) -> u32 {
+    u32::from_be_bytes([bytes[0], bytes[1], bytes[2], bytes[3]])
+}
+
+/// Labels of four bytes each; `bytes` is a multiple of four long.
+pub fn labels_in(bytes: &[u8]) -> Vec<u32> {
+    bytes.chunks_exact(4).map(big_endian).collect()
+}
+
+/// Labels as the bytes of a query.
+pub fn query_of(labels: &[u32]) -> Vec<u8> {
+    labels.iter().flat_map(|label| label.to_be_bytes()).collect()
+}

@@ -1,0 +1,26 @@
+//! LXTR images after document 01: a second implementation, written from the
+//! paper alone, to be compared with the proved one.
+//!
+//! It parses an image into owned vectors and works on those. Where document 01
+//! gives a sentence, this code prefers another road to the same answer: lists
+//! are rebuilt and compared, depths are memoised, walks are recorded as trails,
+//! and the first fit tries 64 bases at once.
+//!
+//! Every function takes a [`rules::Rules`]. [`rules::Rules::PAPER`] is document
+//! 01; any other value breaks exactly one of its rules, which the comparison
+//! must notice.
+
+pub mod answers;
+pub mod builder;
+pub mod check;
+pub mod common;
+pub mod completion;
+pub mod image;
+pub mod keylist;
+pub mod listing;
+pub mod oracle;
+pub mod rules;
+pub mod search;
+
+#[cfg(test)]
+mod paper_examples;

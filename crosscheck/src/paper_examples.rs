@@ -1,0 +1,181 @@
+//! P1 to P11 and the run examples of document 01, against this implementation.
+
+use crate::answers;
+use crate::builder::image_of;
+use crate::common::{query_of, Refusal};
+use crate::image::{CodeMap, Image, Lists, Node};
+use crate::keylist::to_bytes;
+use crate::listing;
+use crate::oracle;
+use crate::rules::Rules;
+
+const PAPER: Rules = Rules::PAPER;
+const VALUE: u64 = 1 << 32;
+const LONGER: u64 = 1 << 33;
+
+fn refused(number: u64) -> u64 {
+    number << 40
+}
+
+fn built(keys: &[&[u32]]) -> Image {
+    let keys: Vec<Vec<u32>> = keys.iter().map(|key| key.to_vec()).collect();
+    image_of(PAPER, &to_bytes(&keys), 131_072).expect("the list builds")
+}
+
+fn p3() -> Image {
+    built(&[&[0x6E], &[0x6E, 0x61]])
+}
+
+fn words(image: &Image) -> Vec<(u32, u32)> {
+    image.nodes.iter().map(|node| (node.base, node.check)).collect()
+}
+
+fn checked(image: &Image) -> u64 {
+    answers::check(PAPER, &image.to_bytes())
+}
+
+fn exact(image: &Image, labels: &[u32]) -> u64 {
+    answers::exact(PAPER, &image.to_bytes(), &query_of(labels))
+}
+
+fn probe(image: &Image, labels: &[u32]) -> u64 {
+    answers::probe(PAPER, &image.to_bytes(), &query_of(labels))
+}
+
+fn records(image: &Image) -> Vec<u8> {
+    let mut room = vec![0; 100];
+    answers::complete(PAPER, &image.to_bytes(), &[], &mut room);
+    room
+}
+
+#[test]
+fn p1_no_keys() {
+    let image = built(&[]);
+    assert_eq!((image.nodes.len(), image.lists.children.len(), image.map.len()), (2, 0, 0));
+    assert_eq!(image.to_bytes().len(), 57);
+    assert_eq!(words(&image)[1].0, 0);
+    assert_eq!(checked(&image), 0);
+}
+
+#[test]
+fn p2_empty_key() {
+    let image = built(&[&[]]);
+    assert_eq!(words(&image), [(0, 0), (2, 0x8000_0000), (0x8000_0000, 1)]);
+    assert_eq!((image.lists.children.len(), image.to_bytes().len()), (1, 73));
+    assert_eq!(checked(&image), 1);
+}
+
+#[test]
+fn p3_two_keys() {
+    let image = p3();
+    let leaf = 0x8000_0000;
+    let slots = [(0, 0), (2, 0), (leaf | 1, 6), (4, leaf | 1), (leaf, 3), (0, 0), (2, leaf | 3)];
+    assert_eq!(words(&image), slots);
+    assert_eq!(image.lists.offsets, [0, 0, 1, 1, 3, 3, 3, 4]);
+    assert_eq!(image.lists.children, [3, 4, 6, 2]);
+    assert_eq!(image.map.labels, [0x6E, 0x61]);
+    assert_eq!(image.to_bytes().len(), 141);
+    assert_eq!(checked(&image), 2);
+    assert_eq!(oracle::set_of(&image).map(|set| set.len()), Some(2));
+}
+
+#[test]
+fn p4_exact() {
+    assert_eq!(exact(&p3(), &[0x6E]), VALUE);
+    assert_eq!(exact(&p3(), &[0x6E, 0x61]), VALUE + 1);
+    assert_eq!(exact(&p3(), &[0x61]), 0);
+    assert_eq!(exact(&p3(), &[]), 0);
+}
+
+#[test]
+fn p5_prefixes() {
+    let (image, query) = (p3().to_bytes(), query_of(&[0x6E, 0x61, 0x6E]));
+    let mut places = [9; 131];
+    assert_eq!(answers::prefixes(PAPER, &image, &query, &mut places), 2);
+    assert_eq!(places[..4], [1, 0, 2, 1]);
+    assert_eq!(places[4..130], [0; 126]);
+    assert_eq!(places[130], 9);
+    assert_eq!(answers::longest(PAPER, &image, &query), 2);
+}
+
+#[test]
+fn p6_probe() {
+    assert_eq!(probe(&p3(), &[0x6E]), VALUE + LONGER);
+    assert_eq!(probe(&p3(), &[0x6E, 0x61]), VALUE + 1);
+    assert_eq!(probe(&p3(), &[]), LONGER);
+    assert_eq!(probe(&p3(), &[0x78]), 0);
+}
+
+#[test]
+fn p7_child_twice() {
+    let mut image = p3();
+    image.lists.children = vec![3, 4, 4, 2];
+    assert_eq!(checked(&image), refused(11));
+    assert_eq!(answers::complete(PAPER, &image.to_bytes(), &[], &mut [0; 100]), refused(11));
+    assert_eq!(exact(&image, &[0x6E, 0x61]), VALUE + 1);
+    assert_eq!(oracle::set_of(&image), None);
+}
+
+#[test]
+fn p8_wrong_slots() {
+    let mut image = p3();
+    image.nodes[3].check = 1;
+    assert_eq!(checked(&image), refused(10));
+    let mut image = p3();
+    image.nodes[5].base = 7;
+    assert_eq!(checked(&image), refused(10));
+    assert_eq!(oracle::set_of(&image), None);
+}
+
+#[test]
+fn p9_label_twice_and_length() {
+    let mut image = p3();
+    image.map = CodeMap::new(PAPER, vec![0x6E, 0x6E]);
+    assert_eq!(checked(&image), refused(9));
+    let mut longer = p3().to_bytes();
+    longer.push(0);
+    assert_eq!(answers::check(PAPER, &longer), refused(6));
+}
+
+#[test]
+fn p10_cycle() {
+    let node = |base, check| Node { base, check };
+    let image = Image {
+        nodes: vec![node(0, 0), node(0, 0), node(2, 3), node(3, 2)],
+        lists: Lists { offsets: vec![0, 0, 0, 1, 2], children: vec![3, 2] },
+        map: CodeMap::new(PAPER, vec![0x61]),
+    };
+    assert_eq!(checked(&image), refused(12));
+    assert_eq!(oracle::set_of(&image), None);
+}
+
+#[test]
+fn p11_code_order() {
+    let image = built(&[&[0x61], &[0x62], &[0x62, 0x62]]);
+    let mut expected = vec![1, 0, 0, 0, 3];
+    for (key, value) in [(&[0x62][..], 1), (&[0x62, 0x62], 2), (&[0x61], 0)] {
+        expected.push(key.len() as u8);
+        expected.extend(query_of(key));
+        expected.extend(query_of(&[value]));
+    }
+    assert_eq!(records(&image)[..expected.len()], expected);
+}
+
+#[test]
+fn run_examples() {
+    let refusal = |key: &[u32]| image_of(PAPER, &to_bytes(&[key.to_vec()]), 1_000).err();
+    assert_eq!(refusal(&[7; 64]), None);
+    assert_eq!(refusal(&[7; 65]), Some(Refusal(17)));
+    assert_eq!(refusal(&[0xD7FF]), None);
+    assert_eq!(refusal(&[0xD800]), Some(Refusal(18)));
+    let equal = to_bytes(&[vec![7], vec![7]]);
+    assert_eq!(image_of(PAPER, &equal, 1_000).err(), Some(Refusal(19)));
+}
+
+#[test]
+fn listing_program() {
+    let list = to_bytes(&[vec![0x6E], vec![0x6E, 0x61]]);
+    assert_eq!(listing::text(PAPER, &list), "pairs 2\n0 6E\n1 6E 61\n");
+    assert_eq!(listing::text(PAPER, &[]), "refused 15\n");
+    assert_eq!(listing::text(PAPER, &to_bytes(&[vec![0]])), "pairs 1\n0 0\n");
+}

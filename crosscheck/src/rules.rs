@@ -1,0 +1,141 @@
+//! The rules of document 01, and wrong variants that break one rule each.
+//!
+//! A comparison that cannot tell a wrong variant from the paper is too weak.
+//! Each variant is tested at the one place where its rule is written, with the
+//! right rule first.
+
+/// Document 01, or document 01 with one rule broken.
+#[derive(Clone, Copy, Debug, PartialEq, Eq)]
+pub struct Rules(Option<Wrong>);
+
+impl Rules {
+    /// Document 01 as it stands.
+    pub const PAPER: Rules = Rules(None);
+
+    pub const fn breaking(wrong: Wrong) -> Rules {
+        Rules(Some(wrong))
+    }
+
+    /// Whether `wrong` is the broken rule; never so under [`Rules::PAPER`].
+    pub fn breaks(self, wrong: Wrong) -> bool {
+        self.0 == Some(wrong)
+    }
+
+    /// Whether `wrong` is not the broken rule; always so under [`Rules::PAPER`].
+    pub fn keeps(self, wrong: Wrong) -> bool {
+        !self.breaks(wrong)
+    }
+
+    /// The right thing, unless `wrong` is the broken rule.
+    pub fn either<T>(self, right: T, wrong: Wrong, instead: T) -> T {
+        if self.breaks(wrong) {
+            instead
+        } else {
+            right
+        }
+    }
+}
+
+macro_rules! wrong_variants {
+    ($($name:ident: $what:literal,)*) => {
+        /// A small, plausible mistake.
+        #[derive(Clone, Copy, Debug, PartialEq, Eq)]
+        pub enum Wrong {
+            $(#[doc = $what] $name,)*
+        }
+
+        impl Wrong {
+            pub const ALL: &'static [Wrong] = &[$(Wrong::$name,)*];
+
+            /// What this variant does wrong.
+            pub fn what(self) -> &'static str {
+                match self {
+                    $(Wrong::$name => $what,)*
+                }
+            }
+        }
+    };
+}
+
+wrong_variants! {
+    // Header, sizes and code map: 1 to 8.
+    ReservedBeforeVersion: "refusal 4 is tested before 3",
+    LastReservedIgnored: "the last four header bytes may be anything",
+    SlotLimit65535: "N of 65,536 is refused",
+    OneEdgeTooMany: "E may be N-1",
+    SumIn32Bits: "the length is compared in 32 bits",
+    CodeMapLittleEndian: "the code map is read little-endian",
+    ListLimit4096: "a code map may list 4,096 labels",
+    LastPlaceCounts: "a label listed twice has its last code",
+    LastOffsetIgnored: "the last offset may differ from E",
+    // The check: 9 to 12 and the count.
+    SurrogateListed: "a listed surrogate passes",
+    LabelListedTwice: "a label listed twice passes",
+    Slot0Ignored: "slot 0 may hold anything",
+    UnusedBaseIgnored: "an unused slot may have a base",
+    LastCodeRefused: "the code L is refused",
+    HasLeafMayBeClear: "an end without HAS_LEAF above it passes",
+    ChildMayBeMissing: "E is not compared with the used slots",
+    ChildListedTwice: "codes need not rise",
+    FallingListAccepted: "a list in falling order passes",
+    ChildlessSlotAccepted: "an inner slot without children passes",
+    EmptyRootBaseIgnored: "slot 1 without children may have a base",
+    SixtyFourSteps: "65 steps to slot 1 are too many",
+    SixtySixSteps: "66 steps to slot 1 pass",
+    CycleAccepted: "a cycle whose lists agree with its parents passes",
+    UsedSlotsCounted: "the used slots are counted instead of the pairs",
+    // The searches.
+    QueryBeforeImage: "refusal 13 is tested before 1 to 8",
+    WholeCheckCompared: "the whole check word is compared with the parent",
+    LeafHasSteps: "a walk steps out of a leaf",
+    UnlistedIsCode0: "an unlisted label has code 0",
+    ValueWithoutHasLeaf: "a value is found without HAS_LEAF",
+    EndNeedNotBeLeaf: "a value is read from a slot that is no leaf",
+    ExactPast64Labels: "exact goes past 64 labels",
+    EmptyKeyNoPrefix: "the empty key is no prefix",
+    PrefixesStopAt63: "only the first 63 labels count for prefixes",
+    PrefixesPast64Labels: "prefixes go past 64 labels",
+    PlacesBehindStay: "places past the count are not zeroed",
+    LongestIsTheWalk: "longest answers how far the walk went",
+    ProbePast64Labels: "probe goes past 64 labels",
+    EndCountsAsLonger: "longer keys exist wherever a list is not empty",
+    FallingPairWraps: "a falling offset pair has a wrapped width",
+    // Completions.
+    RoomBeforeImage: "refusal 14 is tested before 9 to 12",
+    PrefixLabelsLeftOut: "records leave out the prefix's labels",
+    EndAfterLongerKeys: "an end follows its longer keys",
+    ChildrenBySlot: "children are listed by slot number",
+    ChildrenByLabel: "children are listed by label",
+    RecordWantsSpareByte: "a record that fills the room exactly finds none",
+    StopNotTold: "a listing that stopped does not say so",
+    GoesOnAfterStop: "a shorter record is written after one without room",
+    RoomBehindCleared: "bytes past the last record are cleared",
+    // The key list.
+    KeyLimit32767: "a count of 32,768 is refused",
+    SixtyFiveLabels: "a key may have 65 labels",
+    CutBeforeLength: "labels cut short are seen before a length above 64",
+    ScalarBeforeCut: "a label that is no scalar is seen before labels cut short",
+    SurrogateInKey: "a surrogate in a key passes",
+    EqualKeysAccepted: "equal keys pass",
+    BytesMayBeLeftOver: "bytes left over pass",
+    // Building.
+    EachOccurrenceCounts: "each occurrence of a label counts, not each key",
+    TiesByLargerLabel: "among equal frequencies the larger label goes first",
+    LabelLimit4094: "4,095 distinct labels are refused",
+    PlacedBeforeCounted: "refusal 22 is tested before 20",
+    WorkLimit3: "3 work words are enough",
+    SlotForEachWord: "each work word is a slot",
+    Slot1IsFree: "slot 1 is free, as its parent is 0",
+    BaseFrom1: "bases are tried from 1",
+    LargestBase: "the largest base is taken",
+    BreadthFirst: "siblings are placed breadth first",
+    WorkLeftByRefusal: "work is not cleared after a refusal",
+    WorkClearedBy21: "work is cleared after 21",
+    OutputWantsSpareByte: "output of exactly the image's length is refused",
+    OutputTouchedBy23: "refusal 23 leaves part of an image",
+    OutputBehindCleared: "output past the image is cleared",
+    // The listing program.
+    LongInputBuilt: "input past 32,768 bytes is built",
+    LowerCaseLabels: "labels are printed in lower case",
+    FourDigitLabels: "labels are printed with leading zeros",
+}

@@ -1,0 +1,132 @@
+//! Exact, prefixes, longest and probe, over the trail of slots that a query walks.
+
+use crate::common::{labels_in, refuse_if, Refusal, KEY_LABELS};
+use crate::image::Image;
+use crate::rules::{Rules, Wrong};
+
+/// One key found in front of a query: its length in labels and its value number.
+pub type Match = (usize, u32);
+
+/// What probe answers of a key.
+#[derive(Clone, Copy, Debug, Default, PartialEq, Eq)]
+pub struct Probe {
+    pub value: Option<u32>,
+    pub longer_keys: bool,
+}
+
+/// Refusals 1 to 8, then 13: an image to walk and the query's labels.
+pub fn open(rules: Rules, image: &[u8], query: &[u8]) -> Result<(Image, Vec<u32>), Refusal> {
+    let cut = !query.len().is_multiple_of(4);
+    refuse_if(cut && rules.breaks(Wrong::QueryBeforeImage), 13)?;
+    let image = Image::parse(rules, image)?;
+    refuse_if(cut, 13)?;
+    Ok((image, labels_in(query)))
+}
+
+pub fn exact(rules: Rules, image: &[u8], query: &[u8]) -> Result<Option<u32>, Refusal> {
+    let (image, labels) = open(rules, image, query)?;
+    Ok(image.exact(rules, &labels))
+}
+
+pub fn prefixes(rules: Rules, image: &[u8], query: &[u8]) -> Result<Vec<Match>, Refusal> {
+    let (image, labels) = open(rules, image, query)?;
+    Ok(image.prefixes(rules, &labels))
+}
+
+/// The matched front part of the query.
+pub fn longest<'a>(rules: Rules, image: &[u8], query: &'a [u8]) -> Result<&'a [u8], Refusal> {
+    let (image, labels) = open(rules, image, query)?;
+    Ok(&query[..4 * image.longest(rules, &labels)])
+}
+
+pub fn probe(rules: Rules, image: &[u8], query: &[u8]) -> Result<Probe, Refusal> {
+    let (image, labels) = open(rules, image, query)?;
+    Ok(image.probe(rules, &labels))
+}
+
+impl Image {
+    fn step(&self, rules: Rules, from: u32, code: u32) -> Option<u32> {
+        let node = self.node(from);
+        if node.is_leaf() && rules.keeps(Wrong::LeafHasSteps) {
+            return None;
+        }
+        let to = node.low_base() ^ code;
+        let below = self.nodes.get(to as usize)?;
+        let parent = rules.either(below.parent(), Wrong::WholeCheckCompared, below.check);
+        (parent == from).then_some(to)
+    }
+
+    fn value_at(&self, rules: Rules, slot: u32) -> Option<u32> {
+        let flagged = self.node(slot).has_leaf() || rules.breaks(Wrong::ValueWithoutHasLeaf);
+        let end = self.step(rules, slot, 0).filter(|_| flagged)?;
+        let leaf = self.node(end).is_leaf() || rules.breaks(Wrong::EndNeedNotBeLeaf);
+        leaf.then(|| self.node(end).low_base())
+    }
+
+    /// The slots after 0, 1, 2 .. labels, up to where the walk stops.
+    fn trail(&self, rules: Rules, labels: &[u32]) -> Vec<u32> {
+        let unlisted = rules.either(None, Wrong::UnlistedIsCode0, Some(0));
+        let mut trail = vec![1];
+        for label in labels {
+            let code = self.map.code(*label).or(unlisted);
+            let Some(next) = code.and_then(|code| self.step(rules, trail[trail.len() - 1], code))
+            else {
+                break;
+            };
+            trail.push(next);
+        }
+        trail
+    }
+
+    /// The slot after all labels.
+    pub fn slot_of(&self, rules: Rules, labels: &[u32]) -> Option<u32> {
+        self.trail(rules, labels).get(labels.len()).copied()
+    }
+
+    pub fn exact(&self, rules: Rules, labels: &[u32]) -> Option<u32> {
+        if labels.len() > KEY_LABELS && rules.keeps(Wrong::ExactPast64Labels) {
+            return None;
+        }
+        self.value_at(rules, self.slot_of(rules, labels)?)
+    }
+
+    pub fn prefixes(&self, rules: Rules, labels: &[u32]) -> Vec<Match> {
+        let counting = rules.either(KEY_LABELS, Wrong::PrefixesPast64Labels, usize::MAX);
+        let counting = rules.either(counting, Wrong::PrefixesStopAt63, 63);
+        let front = &labels[..labels.len().min(counting)];
+        let slots = self.trail(rules, front).into_iter().enumerate();
+        slots
+            .skip(rules.either(0, Wrong::EmptyKeyNoPrefix, 1))
+            .filter_map(|(length, slot)| Some((length, self.value_at(rules, slot)?)))
+            .collect()
+    }
+
+    /// The length in labels of the longest match.
+    pub fn longest(&self, rules: Rules, labels: &[u32]) -> usize {
+        if rules.breaks(Wrong::LongestIsTheWalk) {
+            return self.trail(rules, labels).len() - 1;
+        }
+        self.prefixes(rules, labels).last().map_or(0, |found| found.0)
+    }
+
+    pub fn probe(&self, rules: Rules, labels: &[u32]) -> Probe {
+        let too_long = labels.len() > KEY_LABELS && rules.keeps(Wrong::ProbePast64Labels);
+        match self.slot_of(rules, labels) {
+            Some(slot) if !too_long => Probe {
+                value: self.value_at(rules, slot),
+                longer_keys: self.longer_keys(rules, slot),
+            },
+            _ => Probe::default(),
+        }
+    }
+
+    /// Whether the children list is wider than the end that HAS_LEAF announces.
+    fn longer_keys(&self, rules: Rules, slot: u32) -> bool {
+        let pair = &self.lists.offsets[slot as usize..];
+        let (from, to) = (pair[0], pair[1]);
+        let width =
+            rules.either(to.saturating_sub(from), Wrong::FallingPairWraps, to.wrapping_sub(from));
+        let flagged = self.node(slot).has_leaf() && rules.keeps(Wrong::EndCountsAsLonger);
+        width > u32::from(flagged)
+    }
+}
