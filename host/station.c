@@ -12,9 +12,9 @@
 #include "lxtr.h"
 
 /* 32,768 keys of 64 labels are the longest key list; one byte more lets a longer file be refused. */
-static uint8_t keys[5 + 32768 * (1 + 4 * LXTR_MAX_LABELS) + 1];
-static uint32_t work[LXTR_MAX_WORK];
-static uint8_t image[LXTR_MAX_IMAGE];
+static uint8_t keys[5 + LXTR_MAX_KEYS * (1 + 4 * LXTR_MAX_LABELS) + 1];
+static uint32_t work[LXTR_MAX_WORK_WORDS];
+static uint8_t image[LXTR_MAX_IMAGE_BYTES];
 
 static int failed(const char *name)
 {
@@ -31,7 +31,7 @@ int main(int argc, char **argv)
 	long length = read_file(argv[1], keys, sizeof keys);
 	if (length < 0)
 		return failed(argv[1]);
-	uint64_t built = lxtr_build(keys, (size_t)length, work, LXTR_MAX_WORK, image, sizeof image);
+	uint64_t built = lxtr_build(keys, (size_t)length, work, LXTR_MAX_WORK_WORDS, image, sizeof image);
 	if (lxtr_refusal(built) != 0) {
 		printf("keys: refused %u\n", lxtr_refusal(built));
 		return 1;

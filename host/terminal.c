@@ -11,7 +11,7 @@
 #include "utf8.h"
 
 /* One byte more than the largest image: a longer file then has a wrong length, and is refused. */
-static uint8_t image[LXTR_MAX_IMAGE + 1];
+static uint8_t image[LXTR_MAX_IMAGE_BYTES + 1];
 static uint8_t room[65536];
 
 static int refused(const char *what, uint64_t answer)

@@ -1,5 +1,5 @@
 /*
- * lxtr.h: LXTR images, version 3, for programs in C and C++.
+ * lxtr.h: LXTR images, version 3, for programs in C (C99 or later) and C++.
  *
  * An LXTR image is one block of bytes that holds a dictionary: a set of keys, each with a value number. It is a double-array
  * trie, made by lxtr_build and read in place by the other functions. Link with liblxtr_c.a; it needs only memcpy and memset.
@@ -8,20 +8,25 @@
  *
  * label      a Unicode scalar value: 0 to 0x10FFFF without 0xD800 to 0xDFFF. Keys of bytes use the labels 0 to 255.
  * key        0 to 64 labels. The empty key is a key.
- * value      a number below 2^31 that belongs to a key. lxtr_build numbers the keys from 0 in the order of their list.
- * query      labels as bytes, four to a label, the highest byte first: U+306A is 00 00 30 6A. Its length is that of the bytes.
- * code       the place of a label in the image's own list of labels, from 1 on. lxtr_build gives the labels that stand in most
- *            keys the smallest codes. Code order compares keys label by label by these codes, a key before its longer keys;
- *            it is not the order of a dictionary.
+ * value      a number below 2^31 that belongs to a key. lxtr_build numbers the keys from 0 in the order of their list; an image
+ *            from elsewhere may have other values.
+ * query      labels as bytes, four to a label, the highest byte first: U+306A is 00 00 30 6A. Its length counts bytes. A number
+ *            that is no label of the image matches nothing.
+ * code       an image lists the labels of its keys; the code of a label is its place in that list, from 1 on. lxtr_build
+ *            lists the labels that stand in most keys first (a key counts once, however often the label stands in it), and of
+ *            two that stand in equally many keys the smaller label.
+ * code order compares keys label by label by the codes, a key before its longer keys. It is not the order of a dictionary.
  *
  * WHAT EVERY FUNCTION KEEPS TO
  *
  * - It takes any bytes: a damaged image, a query that is cut, a list of no keys, no room. It never reads or writes outside of
  *   the memory that it is passed, it always returns, and what it answers is fixed for every input.
  * - Memory is passed as a pointer and a length: bytes for uint8_t, words for uint32_t. A pointer may be null if its length is 0.
- *   Memory that a function writes (places, room, work, out) must not overlap anything else that the same call is passed.
+ *   Bytes need no alignment.
+ * - Lent memory is what a function writes: places, room, work, out. It must not overlap anything else that the same call is
+ *   passed. Memory that is only read may overlap.
  * - It keeps nothing after it returns, allocates nothing and has no state of its own, so any number of threads may call it.
- * - Stack, as measured on x86-64: about 105 KB for lxtr_build, 35 KB for lxtr_check and lxtr_complete, 5 KB for the others.
+ * - Stack, as measured on x86-64: at most about 105 KB for lxtr_build, 35 KB for lxtr_check and lxtr_complete, 5 KB for the others.
  *
  * WHAT A NUMBER MEANS
  *
@@ -29,9 +34,16 @@
  *
  *     refusal * 2^40  +  2^33 if there is more  +  2^32 if there is a value  +  a value, a count or a length
  *
- * Take it apart with the four functions below. If lxtr_refusal gives 0, nothing was refused. If not, it is one of the
- * numbers of enum lxtr_refusal, all other parts of the answer are 0, and lent memory is as it was (lxtr_build clears its
- * work: see there). If several refusals apply, the function says with which it begins.
+ * Take it apart with lxtr_refusal, lxtr_more, lxtr_has_value and lxtr_number below. A part that a function does not use is 0.
+ * If the refusal is 0, nothing was refused. If not, it is a number of enum lxtr_reason, all other parts are 0, and lent memory
+ * is as it was (but lxtr_build clears its work: see there). If several reasons hold, the answer is the first of them in the order
+ * that the function gives.
+ *
+ * LAYOUT, for reading a refusal; programs need not know it
+ *
+ * 24 bytes: "LXTR", a version byte 3, three zeros, N, E and M in four bytes each, four zeros. N slots of two words, base and
+ * check. N + 1 offsets. E children. M bytes of code map: a version byte 1, the number L of labels in four bytes, L labels of four
+ * bytes. Numbers have their lowest byte first, in the code map their highest.
  */
 #ifndef LXTR_H
 #define LXTR_H
@@ -43,49 +55,59 @@
 extern "C" {
 #endif
 
-/* The most labels that a key has, and the words that lxtr_prefixes writes: a length and a value for each length from 0 to 64. */
+/* The most labels that a key has, keys that a list has (32,767 is the most that can fit an image), and labels that an image lists. */
 #define LXTR_MAX_LABELS 64
+#define LXTR_MAX_KEYS 32768
+#define LXTR_MAX_LISTED_LABELS 4095
+
+/* The words that lxtr_prefixes writes: a length and a value for each length from 0 to 64. */
 #define LXTR_PREFIX_WORDS (2 * (LXTR_MAX_LABELS + 1))
 
-/* The bytes of the largest image that there is, and the words of work with which lxtr_build uses all 65,536 slots. */
-#define LXTR_MAX_IMAGE 1064981
-#define LXTR_MAX_WORK 131072
+/* The least room of lxtr_complete, the least work of lxtr_build, and the work with which it has all 65,536 slots. */
+#define LXTR_MIN_ROOM_BYTES 5
+#define LXTR_MIN_WORK_WORDS 4
+#define LXTR_MAX_WORK_WORDS 131072
 
-/* Refusals. An image has N slots, E children and a code map of M bytes that lists L labels. */
-enum lxtr_refusal {
+/* The largest image that there is. */
+#define LXTR_MAX_IMAGE_BYTES 1064981
+
+/* Why something is refused. N, E, M and L are those of the layout above. */
+enum lxtr_reason {
+	LXTR_NOT_REFUSED = 0,
+
 	/* of any image, by every function that takes one, in this order */
-	LXTR_IMAGE_TOO_SHORT = 1,  /* fewer than 24 bytes */
-	LXTR_NO_LXTR = 2,          /* the first four bytes are not "LXTR" */
-	LXTR_WRONG_VERSION = 3,    /* the version is not 3 */
-	LXTR_RESERVED_SET = 4,     /* a reserved byte of the header (5 to 7, 20 to 23) is not 0 */
-	LXTR_WRONG_SIZES = 5,      /* N is outside 2 to 65,536, or E is above N - 2 */
-	LXTR_WRONG_LENGTH = 6,     /* the image has not 24 + 8 N + 4 (N + 1) + 4 E + M bytes */
-	LXTR_WRONG_MAP = 7,        /* M is below 5, the map's version is not 1, L is above 4,095, or M is not 5 + 4 L */
-	LXTR_WRONG_OFFSET_ENDS = 8, /* the first offset is not 0, or the last is not E */
+	LXTR_IMAGE_TOO_SHORT = 1,      /* fewer than 24 bytes */
+	LXTR_NOT_LXTR = 2,             /* the first four bytes are not "LXTR" */
+	LXTR_WRONG_VERSION = 3,        /* the version is not 3 */
+	LXTR_RESERVED_SET = 4,         /* one of the header's seven zeros is not 0 */
+	LXTR_WRONG_SIZES = 5,          /* N is outside 2 to 65,536, or E is above N - 2 */
+	LXTR_WRONG_IMAGE_LENGTH = 6,   /* the image has not 24 + 8 N + 4 (N + 1) + 4 E + M bytes */
+	LXTR_WRONG_MAP = 7,            /* M is below 5, the map's version is not 1, L is above 4,095, or M is not 5 + 4 L */
+	LXTR_WRONG_OFFSET_ENDS = 8,    /* the first offset is not 0, or the last is not E */
 
-	/* of an image, by lxtr_check and lxtr_complete, in this order after 1 to 8 */
-	LXTR_WRONG_LABELS = 9,     /* a listed label is no scalar value, or is listed twice */
-	LXTR_WRONG_SLOTS = 10,     /* a slot is wrong: what lookups read */
-	LXTR_WRONG_LISTS = 11,     /* a children list is wrong: what completions read, and lookups do not */
-	LXTR_UNREACHABLE = 12,     /* a used slot does not reach slot 1 by 65 or fewer steps to the parent */
+	/* of an image, by lxtr_check and lxtr_complete, in this order */
+	LXTR_WRONG_LABELS = 9,         /* a listed label is no scalar value, or is listed twice */
+	LXTR_WRONG_SLOTS = 10,         /* a slot contradicts its parent, its end, or that it is unused; lookups read slots */
+	LXTR_WRONG_LISTS = 11,         /* a children list contradicts the slots; completions read lists, and lookups do not */
+	LXTR_UNREACHABLE = 12,         /* a used slot does not reach the root by 65 or fewer steps to the parent */
 
-	/* of a query, after 1 to 8; of the room, last */
-	LXTR_QUERY_LENGTH = 13,    /* the query's length is no multiple of four */
-	LXTR_ROOM_TOO_SMALL = 14,  /* the room has fewer than 5 bytes */
+	/* of a query, and of the room of lxtr_complete */
+	LXTR_WRONG_QUERY_LENGTH = 13,  /* the query's length is no multiple of four */
+	LXTR_ROOM_TOO_SMALL = 14,      /* the room has fewer than 5 bytes */
 
-	/* of lxtr_build: see there for the order */
-	LXTR_LIST_MALFORMED = 15,  /* the key list is cut short, has bytes left over, or its version is not 1 */
-	LXTR_TOO_MANY_KEYS = 16,   /* more than 32,768 keys */
-	LXTR_KEY_TOO_LONG = 17,    /* a key of more than 64 labels */
-	LXTR_NO_SCALAR = 18,       /* a label that is no Unicode scalar value */
-	LXTR_KEYS_NOT_ASCENDING = 19, /* a key that is not above the key before it */
-	LXTR_TOO_MANY_LABELS = 20, /* more than 4,095 different labels */
-	LXTR_WORK_TOO_SMALL = 21,  /* fewer than 4 words of work */
-	LXTR_NO_BASE_FITS = 22,    /* the slots do not suffice: lend more work, up to LXTR_MAX_WORK words */
-	LXTR_OUTPUT_TOO_SMALL = 23 /* the image is longer than the output */
+	/* of lxtr_build */
+	LXTR_LIST_MALFORMED = 15,      /* the key list is cut short, has bytes left over, or its version is not 1 */
+	LXTR_TOO_MANY_KEYS = 16,       /* the list says that it has more than 32,768 keys */
+	LXTR_KEY_TOO_LONG = 17,        /* a key of more than 64 labels */
+	LXTR_NOT_SCALAR = 18,          /* a label that is no Unicode scalar value */
+	LXTR_KEYS_NOT_ASCENDING = 19,  /* a key that is not above the key before it */
+	LXTR_TOO_MANY_LABELS = 20,     /* more than 4,095 different labels */
+	LXTR_WORK_TOO_SMALL = 21,      /* fewer than 4 words of work */
+	LXTR_TOO_FEW_SLOTS = 22,       /* lend more work; with LXTR_MAX_WORK_WORDS, the list is too large for an image */
+	LXTR_OUT_TOO_SMALL = 23        /* the image is longer than out */
 };
 
-/* The parts of an answer: the refusal, or 0; whether there is more; whether there is a value; the value, count or length. */
+/* The parts of an answer: the reason of a refusal, or 0; whether there is more; whether there is a value; the number. */
 static inline unsigned lxtr_refusal(uint64_t answer)
 {
 	return (unsigned)(answer >> 40);
@@ -107,11 +129,12 @@ static inline uint32_t lxtr_number(uint64_t answer)
 }
 
 /*
- * Checks an image. The number is that of its keys. Refusals: 1 to 12.
+ * Checks an image. The number is that of its keys. Refusals: 1 to 12, in this order.
  *
- * Nothing is refused exactly when the bytes are an image of a set of keys and values. There is then one such set; lookups and
- * completions answer by it. The searches below also answer for an image that the check would refuse by 9 to 12, by the nodes
- * that it has, so a lookup that succeeds says nothing about the image.
+ * Nothing is refused exactly when the bytes are an image of a set of keys and values. There is then one such set, and the
+ * functions below answer by it. lxtr_exact, lxtr_probe, lxtr_longest and lxtr_prefixes do not look for 9 to 12: on an image
+ * with such a fault they answer something, always the same. So check an image once before its answers are trusted; that a
+ * word was found says nothing about the rest of the image.
  */
 uint64_t lxtr_check(const uint8_t *image, size_t image_length);
 
@@ -127,9 +150,9 @@ uint64_t lxtr_exact(const uint8_t *image, size_t image_length, const uint8_t *qu
 uint64_t lxtr_probe(const uint8_t *image, size_t image_length, const uint8_t *query, size_t query_length);
 
 /*
- * Finds the longest key with which the query begins. The number is its length in labels, so the key is the first
- * 4 * number bytes of the query; 0 if there is none, or only the empty key. Only the query's first 64 labels count.
- * Refusals: 1 to 8, then 13.
+ * Finds the longest key with which the query begins. The number is its length in labels, so the key is the first 4 * number
+ * bytes of the query. It is 0 if there is none, or only the empty key; lxtr_exact of an empty query tells these apart. Only
+ * the query's first 64 labels count. Refusals: 1 to 8, then 13.
  */
 uint64_t lxtr_longest(const uint8_t *image, size_t image_length, const uint8_t *query, size_t query_length);
 
@@ -145,12 +168,13 @@ uint64_t lxtr_prefixes(const uint8_t *image, size_t image_length, const uint8_t 
                        uint32_t *places, size_t places_length);
 
 /*
- * Lists the keys that begin with a prefix, in code order. The number is how many records are in the room; "more" says that
- * the listing stopped because the next record had no room. No records for a prefix that begins no key, or beyond 64 labels.
- * Refusals: 1 to 8, 13, 9 to 12, 14, in this order.
+ * Lists the keys that begin with a prefix, the prefix itself if it is a key, in code order. The number is how many records are in
+ * the room. "More" says that the listing stopped before a record that had no room; call again with more room for the rest.
+ * A prefix that begins no key, or beyond 64 labels, has no records. Refusals: 1 to 8, 13, 9 to 12, 14, in this order: each call
+ * checks the whole image, which takes about a millisecond for the largest.
  *
- * Afterwards the room holds the byte 1, the number of records in four bytes, and the records one after the other. A record
- * is a byte with the number of labels of the key, all labels of the key (those of the prefix too) in four bytes each, and
+ * Afterwards the room holds a version byte 1, the number of records in four bytes, and the records one after the other. A
+ * record is a byte with the number of labels of the key, all labels of the key (those of the prefix too) in four bytes each, and
  * the value in four bytes. Numbers have their highest byte first. Bytes past the last record are as they were.
  * Room for a whole set is 5 bytes, and for each key 5 bytes and 4 for each of its labels.
  */
@@ -158,19 +182,20 @@ uint64_t lxtr_complete(const uint8_t *image, size_t image_length, const uint8_t 
                        uint8_t *room, size_t room_length);
 
 /*
- * Builds the image of a key list. The number is the image's length in bytes. Value i is that of the i-th key, from 0 on.
+ * Builds the image of a key list. The number is the image's length in bytes. Value i is that of the i-th key, from 0 on. The largest
+ * lists take seconds.
  *
- * A key list is the byte 1, the number of keys in four bytes, and for each key a byte with its number of labels and the
- * labels in four bytes each. Numbers have their highest byte first. Keys ascend label by label, a key before its longer
- * keys, and no two are equal.
+ * A key list is a version byte 1, the number of keys in four bytes, and for each key a byte with its number of labels and the
+ * labels in four bytes each. Numbers have their highest byte first. Keys ascend label by label by the labels' numbers (not by
+ * codes), a key before its longer keys, and no two are equal.
  *
  * work is memory to build in; W words allow W / 2 slots, at most 65,536. Each key takes a slot for its end, and each different
- * front part of the keys one, so 2 * (2 + keys + labels of all keys) words are a first guess; free slots between the used
- * ones may ask for more (refusal 22). work_length counts words. An image for n slots, all used, that lists L labels has
- * 25 + 16 n + 4 L bytes; LXTR_MAX_IMAGE always suffices.
+ * front part of the keys one, so 2 * (2 + keys + labels of all keys) words are a first guess; if 22 refuses it, double it. An
+ * image built with W words that lists L labels has at most 25 + 8 W + 4 L bytes. The slots that are chosen can depend on W: for
+ * the same bytes lend the same work. What work holds before does not matter. work_length counts words.
  *
- * Refusals in this order: 21; 15 for the list's first five bytes, 16; then key by key 15, 17, 15, 18, 19; 15 for bytes left
- * over; 20; 22; 23.
+ * Refusals in this order: 21; 15 for a list under 5 bytes or of another version; 16; then for each key 15 if its length byte is
+ * missing, 17, 15 if its labels are cut short, 18, 19; 15 for bytes left over; 20; 22; 23.
  *
  * Afterwards the image is at the front of out, whose other bytes are as they were; a refusal leaves all of out as it was.
  * All words of work are 0, also after a refusal, except after 21, which leaves them as they were.

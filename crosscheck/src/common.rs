@@ -16,7 +16,7 @@ pub const STEPS: u32 = 65;
 pub struct Refusal(pub u8);
 
 /// Refuses with `number` when `fault` holds. Written one after the other with
-/// `?`, such lines are the paper's order of refusals.
+/// `?`, such lines are document 01's order of refusals.
 pub fn refuse_if(fault: bool, number: u8) -> Result<(), Refusal> {
     if fault {
         Err(Refusal(number))

@@ -1,12 +1,12 @@
-//! LXTR images after document 01: a second implementation, written from the
-//! paper alone, to be compared with the proved one.
+//! LXTR images after document 01: a second implementation, which shares nothing
+//! with the proved one and is compared with it.
 //!
 //! It parses an image into owned vectors and works on those. Where document 01
-//! gives a sentence, this code prefers another road to the same answer: lists
+//! gives a sentence, this code often takes another way to the same answer: lists
 //! are rebuilt and compared, depths are memoised, walks are recorded as trails,
 //! and the first fit tries 64 bases at once.
 //!
-//! Every function takes a [`rules::Rules`]. [`rules::Rules::PAPER`] is document
+//! Every function takes a [`rules::Rules`]. [`rules::Rules::DOCUMENT`] is document
 //! 01; any other value breaks exactly one of its rules, which the comparison
 //! must notice.
 
@@ -23,4 +23,4 @@ pub mod rules;
 pub mod search;
 
 #[cfg(test)]
-mod paper_examples;
+mod examples;

@@ -1,6 +1,6 @@
 //! The rules of document 01, and wrong variants that break one rule each.
 //!
-//! A comparison that cannot tell a wrong variant from the paper is too weak.
+//! A comparison that cannot tell a wrong variant from document 01 is too weak.
 //! Each variant is tested at the one place where its rule is written, with the
 //! right rule first.
 
@@ -10,18 +10,18 @@ pub struct Rules(Option<Wrong>);
 
 impl Rules {
     /// Document 01 as it stands.
-    pub const PAPER: Rules = Rules(None);
+    pub const DOCUMENT: Rules = Rules(None);
 
     pub const fn breaking(wrong: Wrong) -> Rules {
         Rules(Some(wrong))
     }
 
-    /// Whether `wrong` is the broken rule; never so under [`Rules::PAPER`].
+    /// Whether `wrong` is the broken rule; never so under [`Rules::DOCUMENT`].
     pub fn breaks(self, wrong: Wrong) -> bool {
         self.0 == Some(wrong)
     }
 
-    /// Whether `wrong` is not the broken rule; always so under [`Rules::PAPER`].
+    /// Whether `wrong` is not the broken rule; always so under [`Rules::DOCUMENT`].
     pub fn keeps(self, wrong: Wrong) -> bool {
         !self.breaks(wrong)
     }

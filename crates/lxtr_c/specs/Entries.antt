@@ -12,7 +12,7 @@ use Rattle.lxtr_spec.specs.Searches.{exactOf, prefixesOf, LongestAnswer, longes
 use Rattle.lxtr_spec.specs.Completions.{CompletionAnswer, completionOf}
 use Rattle.lxtr_spec.specs.Builds.{BuildAnswer, buildOf}
 use Rattle.lxtr_spec.specs.Answers.{found, exactMeans, probeMeans}
-use Rattle.lxtr_spec.specs.HostNumbers.{hostNumber, valueNumbered, checkNumber, exactNumber, probeNumber, longestNumber, HostPrefixes, alternately, atFront, prefixesTo, hostPrefixesOf, HostCompletion, completionNumber, hostCompletionOf, HostBuild, builtNumber, hostBuildOf}
+use Rattle.lxtr_spec.specs.HostNumbers.{hostNumber, valueNumbered, checkNumber, exactNumber, probeNumber, longestNumber, HostPrefixes, alternately, atFront, prefixesNumber, placesAfter, hostPrefixesOf, HostCompletion, completionNumber, hostCompletionOf, HostBuild, builtNumber, hostBuildOf}
 use Rattle.lxtr_laws.specs.Refusing.{stands}
 use Rattle.lxtr_search.specs.Kept.{longest-bytes, longest-limit}
 use Rattle.lxtr_spec.specs.declared.Found.{Found}
@@ -65,12 +65,12 @@ module _ (b : List ℕ) where
 
     module _ (p : Prefixes) (n : ℕ) (e : p ≡ prefixesOf b q) (h : n ≡ hostNumber (p .refusal) false false (p .count)) (places : List ℕ) where
       pub prefixes-refused : (p .refusal ≡ 0 → ⊥) → _≡_ {A = HostPrefixes} (record { number = n; places = places }) (hostPrefixesOf b q places)
-      unfolding hostPrefixesOf prefixesTo
+      unfolding hostPrefixesOf prefixesNumber placesAfter
       prefixes-refused r = rw (← e, stands (p .refusal) (atFront (alternately (p .lengths) (p .values)) places) places r, h)
 
       pub prefixes-passed : (after : List ℕ) → p .refusal ≡ 0 → after ≡ atFront (alternately (p .lengths) (p .values)) places
           → _≡_ {A = HostPrefixes} (record { number = n; places = after }) (hostPrefixesOf b q places)
-      unfolding hostPrefixesOf prefixesTo unlessRefused
+      unfolding hostPrefixesOf prefixesNumber placesAfter unlessRefused
       prefixes-passed after z f = rw (← e, h, f, z)
 
     pub completion-number : (room after : List ℕ) (a : Completion) (n : ℕ) → _≡_ {A = CompletionAnswer} (record { answer = a; room = after }) (completionOf b q room)

@@ -22,37 +22,33 @@ module _ (xs ys : List ℕ) where
   unfolding alternately
   alternately-length = words-length lengthCount 0
 
-  -- place j of n from place k on
-  even-word : (n k j : ℕ) → j < n → getD (concatFrom n k (placeWords xs ys)) (2 * j) 0 ≡ getD xs (k + j) 0
+  -- the two words of place j, of n places from place k on
+  word-of : (n k j t : ℕ) → j < n → t < 2 → getD (concatFrom n k (placeWords xs ys)) (2 * j + t) 0 ≡ getD (placeWords xs ys (k + j)) t 0
   unfolding concatFrom placeWords
-  even-word zero k j h = absurd (omega arith)
-  even-word (suc n) k zero h = rw add-zero
-  even-word (suc n) k (suc j) h =
-      let two : 2 * suc j ≡ suc (suc (2 * j)) = omega arith in
+  word-of zero k j t h l = absurd (omega arith)
+  word-of (suc n) k zero zero h l = rw add-zero
+  word-of (suc n) k zero (suc zero) h l = rw add-zero
+  word-of (suc n) k zero (suc (suc t)) h l = absurd (omega arith)
+  word-of (suc n) k (suc j) t h l =
+      let two : 2 * suc j + t ≡ suc (suc (2 * j + t)) = omega arith in
       let next : k + 1 + j ≡ k + suc j = omega arith in
-      rw (two, ← next) (even-word n (k + 1) j (omega arith))
-
-  odd-word : (n k j : ℕ) → j < n → getD (concatFrom n k (placeWords xs ys)) (2 * j + 1) 0 ≡ getD ys (k + j) 0
-  unfolding concatFrom placeWords
-  odd-word zero k j h = absurd (omega arith)
-  odd-word (suc n) k zero h = rw add-zero
-  odd-word (suc n) k (suc j) h =
-      let two : 2 * suc j + 1 ≡ suc (suc (2 * j + 1)) = omega arith in
-      let next : k + 1 + j ≡ k + suc j = omega arith in
-      rw (two, ← next) (odd-word n (k + 1) j (omega arith))
+      rw (two, ← next) (word-of n (k + 1) j t (omega arith) l)
 
   module _ (i : ℕ) (h : i < 2 * lengthCount) where
-    pub length-word : i % 2 ≡ 0 → getD xs (i / 2) 0 ≡ getD (alternately xs ys) i 0
+    word-is : (t : ℕ) → i % 2 ≡ t → getD (placeWords xs ys (i / 2)) t 0 ≡ getD (alternately xs ys) i 0
     unfolding alternately
-    length-word z =
-        let e : i ≡ 2 * (i / 2) = omega (arith, div-add-mod' i 2) in
-        sym (ap (λ (k : ℕ). getD (alternately xs ys) k 0) e ∙ even-word lengthCount 0 (i / 2) (omega arith) ∙ ap (λ (k : ℕ). getD xs k 0) (zero-add (i / 2)))
+    word-is t e =
+        let whole : i ≡ 2 * (i / 2) + t = omega (arith, div-add-mod' i 2) in
+        sym (ap (λ (k : ℕ). getD (alternately xs ys) k 0) whole ∙ word-of lengthCount 0 (i / 2) t (omega arith) (omega arith)
+        ∙ ap (λ (k : ℕ). getD (placeWords xs ys k) t 0) (zero-add (i / 2)))
+
+    pub length-word : i % 2 ≡ 0 → getD xs (i / 2) 0 ≡ getD (alternately xs ys) i 0
+    unfolding placeWords
+    length-word z = word-is 0 z
 
     pub value-word : (i % 2 ≡ 0 → ⊥) → getD ys (i / 2) 0 ≡ getD (alternately xs ys) i 0
-    unfolding alternately
-    value-word z =
-        let e : i ≡ 2 * (i / 2) + 1 = omega (arith, div-add-mod' i 2) in
-        sym (ap (λ (k : ℕ). getD (alternately xs ys) k 0) e ∙ odd-word lengthCount 0 (i / 2) (omega arith) ∙ ap (λ (k : ℕ). getD ys k 0) (zero-add (i / 2)))
+    unfolding placeWords
+    value-word z = word-is 1 (omega arith)
 
 -- of lengths xs and values ys the first i words are in the places, which were places₀ before
 pub record WordsIn (xs ys places₀ places : List ℕ) (i : ℕ) : Type 0 where

@@ -3,7 +3,7 @@ use Prim.Native.Nat.{ℕ, _+_, _-_, _*_, _^_}
 use mathlib.Core.Path.{_≡_}
 use mathlib.Core.List.{List, [], _∷_, _++_}
 use mathlib.Core.Option.{Option, none}
-use mathlib.Core.Bool.{Bool, false, cond}
+use mathlib.Core.Bool.{Bool, true, false, cond}
 use lib.Dec.{ltb}
 use lib.ListN.{length, replicate}
 use Rattle.lxtr_spec.specs.Ranges.{anyBelow, countBelow, concatFrom}
@@ -15,7 +15,7 @@ use Rattle.lxtr_spec.specs.Refusals.{refuseIf, firstRefusal, unlessRefused, too
 use Rattle.lxtr_spec.specs.Walks.{step, stepBy, walk, walkWithin, leafValue, valueAt, valueReached, valueOf, longerAt}
 use Rattle.lxtr_spec.specs.Searches.{queryRefusal, searchRefusal, exactValue, exactOf, lengthMatch, matchAt, matches, prefixMatches, prefixesAnswer, prefixesOf, lastLength, longestLength, longestOf, probeAnswer, probeAt, probeOf}
 use Rattle.lxtr_spec.specs.Completions.{entryPairs, listFrom, pairsAt, pairsBelow, recordOf, recordsOf, fitting, listingOf, listedIn, completionAnswer, written, completionRefusal, completionOf}
-use Rattle.lxtr_spec.specs.HostNumbers.{hostNumber, valueNumbered, checkNumber, exactNumber, probeNumber, longestNumber, placeWords, alternately, atFront, prefixesTo, hostPrefixesOf, completionNumber, hostCompletionOf, builtNumber, hostBuildOf}
+use Rattle.lxtr_spec.specs.HostNumbers.{hostNumber, valueNumbered, checkNumber, exactNumber, probeNumber, longestNumber, placeWords, alternately, atFront, placesAfter, prefixesNumber, hostPrefixesOf, completionNumber, hostCompletionOf, builtNumber, hostBuildOf}
 use Rattle.lxtr_spec.specs.KeyLists.{listVersion, keyCount, keyLength, keyLabel, nextKey, keyLabels, keyAt, keysFrom, pairsOf, noScalarAt, notAbove, keyRefusal, keysRefusal, listRefusal}
 use Rattle.lxtr_spec.specs.CodeMaps.{insert, insertAll, labelsUsed, contains, frequency, goesBefore, rankIn, ranked, mapOf, codeIn, labelWith}
 use Rattle.lxtr_spec.specs.Placing.{baseAt, checkAt, isTakenFrom2, isFree, fits, firstFitFrom, firstFit, nextCode, childCodes, below, endValue, putChild, putChildren, putParent, settle, intoEach, place}
@@ -46,6 +46,10 @@ pub data Example : Type 0 where
   completion-refused : List ℕ → List ℕ → ℕ → ℕ → Example
   -- image, prefix, pairs, bytes written
   completes : List ℕ → List ℕ → List Pair → List ℕ → Example
+  -- image, prefix, bytes of room in which completion stops, how many records they hold, the room afterwards
+  completion-stops : List ℕ → List ℕ → ℕ → ℕ → List ℕ → Example
+  -- keys, the labels that they use in the order of their codes
+  lists-labels : List (List ℕ) → List ℕ → Example
   -- keys, words of work, the image that they give
   builds : List (List ℕ) → ℕ → List ℕ → Example
   -- keys, words of work, the length of that image
@@ -87,6 +91,10 @@ Holds (completes b xs ps bytes) =
     (pairsBelow b xs ≡ ps)
     × (completionOf b (beWords xs) (unwritten (length bytes + 2)) ≡ record { answer = record { refusal = 0; count = length ps; stopped = false }; room = bytes ++ unwritten 2 })
     × (hostCompletionOf b (beWords xs) (unwritten (length bytes + 2)) ≡ record { number = length ps; room = bytes ++ unwritten 2 })
+Holds (completion-stops b xs n count room) =
+    (completionOf b (beWords xs) (unwritten n) ≡ record { answer = record { refusal = 0; count = count; stopped = true }; room = room })
+    × (hostCompletionOf b (beWords xs) (unwritten n) ≡ record { number = 2 ^ 33 + count; room = room })
+Holds (lists-labels ks labels) = mapOf (pairsOf (keyList ks)) ≡ labels
 Holds (builds ks n image) =
     (buildOf (keyList ks) (unset n) (unwritten (length image + 2))
     ≡ record { answer = record { refusal = 0; length = length image }; output = image ++ unwritten 2; work = replicate n 0 })
@@ -108,5 +116,5 @@ a and b = (a, b)
 
 -- every definition that a row runs: to unfold this name is to unfold them all
 unfoldable pub computing : Unit {0}
-unfolding anyBelow countBelow le32 be32 leBytes beBytes leWords beWords isScalar maxLabels labelsFrom labelsOf slotUnder codeUnder magic version slotCount childCount mapLength baseWord checkWord isLeaf hasLeaf parent hasParent base valueNumber slotFrom codeTo offset child listWidth mapVersion labelCount labelAt labelOfCode codeFrom codeOf refuseIf firstRefusal unlessRefused tooShort byteDiffers magicDiffers versionWrong reservedSet sizesWrong lengthWrong mapWrong offsetEndsWrong headerRefusal sameLabel labelWrong labelsWrong isUsedFrom2 isUsed ownCode bothZero usedSlotWrong endExists flagWrong slotWrong slotsWrong offsetFalls usedCount entryWrong codeNotAbove entryWrongIn entriesWrong childless rootWrong listsWrong reaches unreachable someUnreachable bodyRefusal imageRefusal isEnd endCount checkOf step stepBy walk walkWithin leafValue valueAt valueReached valueOf longerAt queryRefusal searchRefusal exactValue exactOf lengthMatch matchAt matches prefixMatches prefixesAnswer prefixesOf lastLength longestLength longestOf probeAnswer probeAt probeOf concatFrom entryPairs listFrom pairsAt pairsBelow recordOf recordsOf fitting listingOf listedIn completionAnswer written completionRefusal completionOf hostNumber valueNumbered checkNumber exactNumber probeNumber longestNumber placeWords alternately atFront prefixesTo hostPrefixesOf completionNumber hostCompletionOf builtNumber hostBuildOf comesBefore listVersion keyCount keyLength keyLabel nextKey keyLabels keyAt keysFrom pairsOf noScalarAt notAbove keyRefusal keysRefusal listRefusal insert insertAll labelsUsed contains frequency goesBefore rankIn ranked mapOf codeIn labelWith baseAt checkAt isTakenFrom2 isFree fits firstFitFrom firstFit nextCode childCodes below endValue putChild putChildren putParent settle intoEach place headerBytes mapBytes imageBytes slotsUsed isChild childBy childrenOf childrenIn offsetsFrom imageIn slotsIn placedIn withRoom fromPlaced fromLabels fromKeys outcomeOf answered workAfter buildOf keyRecords keyList p1 p2 nodes3 offsets3 children3 labels3 p3 p7 p8-check p8-slot p9-labels p9-longer p10 p11
+unfolding anyBelow countBelow le32 be32 leBytes beBytes leWords beWords isScalar maxLabels labelsFrom labelsOf slotUnder codeUnder magic version slotCount childCount mapLength baseWord checkWord isLeaf hasLeaf parent hasParent base valueNumber slotFrom codeTo offset child listWidth mapVersion labelCount labelAt labelOfCode codeFrom codeOf refuseIf firstRefusal unlessRefused tooShort byteDiffers magicDiffers versionWrong reservedSet sizesWrong lengthWrong mapWrong offsetEndsWrong headerRefusal sameLabel labelWrong labelsWrong isUsedFrom2 isUsed ownCode bothZero usedSlotWrong endExists flagWrong slotWrong slotsWrong offsetFalls usedCount entryWrong codeNotAbove entryWrongIn entriesWrong childless rootWrong listsWrong reaches unreachable someUnreachable bodyRefusal imageRefusal isEnd endCount checkOf step stepBy walk walkWithin leafValue valueAt valueReached valueOf longerAt queryRefusal searchRefusal exactValue exactOf lengthMatch matchAt matches prefixMatches prefixesAnswer prefixesOf lastLength longestLength longestOf probeAnswer probeAt probeOf concatFrom entryPairs listFrom pairsAt pairsBelow recordOf recordsOf fitting listingOf listedIn completionAnswer written completionRefusal completionOf hostNumber valueNumbered checkNumber exactNumber probeNumber longestNumber placeWords alternately atFront placesAfter prefixesNumber hostPrefixesOf completionNumber hostCompletionOf builtNumber hostBuildOf comesBefore listVersion keyCount keyLength keyLabel nextKey keyLabels keyAt keysFrom pairsOf noScalarAt notAbove keyRefusal keysRefusal listRefusal insert insertAll labelsUsed contains frequency goesBefore rankIn ranked mapOf codeIn labelWith baseAt checkAt isTakenFrom2 isFree fits firstFitFrom firstFit nextCode childCodes below endValue putChild putChildren putParent settle intoEach place headerBytes mapBytes imageBytes slotsUsed isChild childBy childrenOf childrenIn offsetsFrom imageIn slotsIn placedIn withRoom fromPlaced fromLabels fromKeys outcomeOf answered workAfter buildOf keyRecords keyList p1 p2 nodes3 offsets3 children3 labels3 p3 p7 p8-check p8-slot p9-labels p9-longer p10 p11
 computing = tt

@@ -1,11 +1,11 @@
--- Document 01's example "Run", then the builder's refusals and the order of two that hold at once.
+-- Document 01's example "Run", what a label's frequency counts, then the builder's refusals and the order of two that hold at once.
 -- (Not 20 and 22, which take long to compute: the program `build_examples` runs them.)
 use Prim.Native.Nat.{ℕ}
 use mathlib.Core.Path.{refl}
 use mathlib.Core.List.{List, [], _∷_, _++_}
 use lib.ListN.{replicate}
 use Rattle.lxtr_spec.specs.Samples.{keyList}
-use Rattle.lxtr_demands.specs.Rows.{Example, build-length, build-refused, AllHold, _and_, computing}
+use Rattle.lxtr_demands.specs.Rows.{Example, lists-labels, build-length, build-refused, AllHold, _and_, computing}
 
 unfoldable pub run-examples : List Example
 run-examples =
@@ -18,6 +18,11 @@ run-examples =
 pub run-examples-hold : AllHold run-examples
 unfolding run-examples computing
 run-examples-hold = refl and refl and refl and refl and refl and tt
+
+-- A label counts once for each key that contains it, however often it stands there: 62 is in two keys, 61 and 63 in one each.
+pub codes-by-keys : AllHold (lists-labels ((0x61 ∷ 0x61 ∷ []) ∷ (0x62 ∷ []) ∷ (0x62 ∷ 0x63 ∷ []) ∷ []) (0x62 ∷ 0x61 ∷ 0x63 ∷ []) ∷ [])
+unfolding computing
+codes-by-keys = refl and tt
 
 unfoldable pub build-refusals : List Example
 build-refusals =

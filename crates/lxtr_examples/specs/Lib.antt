@@ -1,5 +1,5 @@
--- Beside P1 to P11, which are with the demands: readings that no example shows and the example "Run", as tables of rows; and what
--- demand 3 says of P3 and P10.
+-- Beside P1 to P11, which are with the demands: readings that no example shows and the example "Run", as tables of rows; and programs
+-- that the demands rule out, whatever else they do.
 pub mod Readings
 pub mod Builds
 pub mod Instances

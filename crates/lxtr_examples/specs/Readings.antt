@@ -1,4 +1,5 @@
--- Readings of document 01 that none of its examples shows: the order of refusals, the limit, and walks over images that pass 1 to 8 alone.
+-- Readings of document 01 that none of its examples shows: the order of refusals, a stop for want of room, the limit, and walks over images
+-- that pass 1 to 8 alone.
 use Prim.Native.Nat.{ℕ}
 use mathlib.Core.Path.{refl}
 use mathlib.Core.List.{List, [], _∷_}
@@ -7,8 +8,8 @@ use mathlib.Core.Bool.{false}
 use lib.ListN.{replicate, set}
 use Rattle.lxtr_spec.specs.Words.{beWords}
 use Rattle.lxtr_spec.specs.Builds.{imageBytes}
-use Rattle.lxtr_spec.specs.Samples.{nodes3, offsets3, children3, labels3, p3, p7, p9-labels, p9-longer}
-use Rattle.lxtr_demands.specs.Rows.{Example, refused, exact, prefixes, longest, probe, query-refused, completion-refused, AllHold, _and_, computing}
+use Rattle.lxtr_spec.specs.Samples.{nodes3, offsets3, children3, labels3, p3, p7, p9-labels, p9-longer, p11}
+use Rattle.lxtr_demands.specs.Rows.{Example, refused, exact, prefixes, longest, probe, query-refused, completion-refused, completion-stops, AllHold, _and_, computing}
 
 -- slot 1 is its own child by code 1, and slot 0 its end: any number of labels 61 walks
 unfoldable pub own-child : List ℕ
@@ -21,6 +22,8 @@ readings =
     -- completion: 6, 13, 11, 14 in this order, and 14 for an absent prefix too
     ∷ completion-refused p9-longer (0 ∷ []) 4 6 ∷ completion-refused p7 (0 ∷ []) 4 13 ∷ completion-refused p7 [] 4 11 ∷ completion-refused p3 [] 4 14
     ∷ completion-refused p3 (beWords (0x78 ∷ [])) 4 14
+    -- completion stops before the second record of P11, and does not go on to the third, which is shorter
+    ∷ completion-stops p11 [] 23 1 (1 ∷ 0 ∷ 0 ∷ 0 ∷ 1 ∷ 1 ∷ 0 ∷ 0 ∷ 0 ∷ 0x62 ∷ 0 ∷ 0 ∷ 0 ∷ 1 ∷ replicate 9 0xFF)
     -- the limit of 64 labels
     ∷ exact own-child (replicate 64 0x61) (some 5) 0x1_0000_0005 ∷ exact own-child (replicate 65 0x61) none 0
     ∷ longest own-child (replicate 66 0x61) (replicate 64 0x61)
@@ -45,6 +48,7 @@ unfolding readings own-child computing
 readings-hold =
     (refl, refl, refl, refl, refl, refl, refl) and (refl, refl, refl, refl, refl, refl, refl)
     and (refl, refl) and (refl, refl) and (refl, refl) and (refl, refl) and (refl, refl)
+    and (refl, refl)
     and (refl, refl) and (refl, refl) and (refl, refl) and refl and (refl, refl) and (refl, refl)
     and (refl, refl, refl) and (refl, refl, refl) and (refl, refl, refl) and (refl, refl, refl)
     and (refl, refl) and (refl, refl) and (refl, refl) and (refl, refl) and (refl, refl) and (refl, refl)

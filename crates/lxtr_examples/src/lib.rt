@@ -1,1 +1,1 @@
-// Document 01's examples, computed on the definitions of `lxtr_spec`. It holds no code: everything is in specs/.
+// More examples computed on the definitions of `lxtr_spec`, and what the demands rule out. It holds no code: everything is in specs/.

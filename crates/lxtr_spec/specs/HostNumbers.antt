@@ -39,26 +39,31 @@ longestNumber b q = hostNumber (searchRefusal b q) false false (longestLength b 
 
 -- Not in document 01, which gives these no number: the number, with what the lent memory holds afterwards.
 
--- Prefixes: the count; length and value of each of the 65 places one after the other, as far as the lent words go. Those past
--- them stay. A refusal writes nothing.
+-- Prefixes: the count; in lent words length and value alternately, shortest first.
 pub record HostPrefixes : Type 0 where
   pub number : ℕ
   pub places : List ℕ
 
+-- length and value of place j, and of all 65 places
 unfoldable pub placeWords : List ℕ → List ℕ → ℕ → List ℕ
 placeWords lengths values j = getD lengths j 0 ∷ getD values j 0 ∷ []
 
 unfoldable pub alternately : List ℕ → List ℕ → List ℕ
 alternately lengths values = concatFrom lengthCount 0 (placeWords lengths values)
 
+-- words at the front of the lent ones, as far as these go; lent words past them stay
 unfoldable pub atFront : List ℕ → List ℕ → List ℕ
 atFront xs places = take (length places) xs ++ drop (length xs) places
 
-unfoldable pub prefixesTo : Prefixes → List ℕ → HostPrefixes
-prefixesTo p places = record { number = hostNumber (p .refusal) false false (p .count); places = unlessRefused (p .refusal) (atFront (alternately (p .lengths) (p .values)) places) places }
+-- a refusal writes nothing
+unfoldable pub placesAfter : Prefixes → List ℕ → List ℕ
+placesAfter p places = unlessRefused (p .refusal) (atFront (alternately (p .lengths) (p .values)) places) places
+
+unfoldable pub prefixesNumber : Prefixes → ℕ
+prefixesNumber p = hostNumber (p .refusal) false false (p .count)
 
 unfoldable pub hostPrefixesOf : List ℕ → List ℕ → List ℕ → HostPrefixes
-hostPrefixesOf b q places = prefixesTo (prefixesOf b q) places
+hostPrefixesOf b q places = record { number = prefixesNumber (prefixesOf b q); places = placesAfter (prefixesOf b q) places }
 
 -- Completions: the count of records, plus 2^33 if it stopped.
 pub record HostCompletion : Type 0 where

@@ -11,7 +11,7 @@ use crosscheck::rules::{Rules, Wrong};
 
 const SHOWN_DIFFERENCES: u64 = 10;
 
-/// A wrong variant, and the comparison that told it from the paper.
+/// A wrong variant, and the comparison that told it from document 01.
 struct Variant {
     wrong: Wrong,
     noticed: Option<(u64, Function)>,
@@ -67,7 +67,7 @@ impl Comparison {
     /// Compares one call in its answer and all lent memory; gives the archive's answer.
     pub fn call(&mut self, call: Call) -> u64 {
         let answered = self.archive.answer(&call, &mut self.real);
-        let expected = call.by_rules(Rules::PAPER, &mut self.expected);
+        let expected = call.by_rules(Rules::DOCUMENT, &mut self.expected);
         if self.score(&call, &answered, expected) {
             self.try_variants(&call, answered.answer);
         }
@@ -126,7 +126,7 @@ impl Comparison {
     pub fn image(&mut self, image: &[u8]) -> u64 {
         let check = Call::Check { image };
         let answer = self.call(check);
-        let Ok(parsed) = Image::parse(Rules::PAPER, image) else {
+        let Ok(parsed) = Image::parse(Rules::DOCUMENT, image) else {
             return answer;
         };
         self.oracle.images += 1;

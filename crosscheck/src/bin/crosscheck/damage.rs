@@ -26,7 +26,7 @@ fn resize_map(random: &mut Random, image: &mut Image) {
     } else {
         labels.pop();
     }
-    image.map = CodeMap::new(Rules::PAPER, labels);
+    image.map = CodeMap::new(Rules::DOCUMENT, labels);
 }
 
 /// The bytes of an image, with the sizes they had at first.

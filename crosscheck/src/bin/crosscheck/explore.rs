@@ -102,14 +102,14 @@ pub fn complete_at_borders(
 /// Where the count and each record end in room enough; at least the count's end.
 fn record_ends(image: &[u8], prefix: &[u8]) -> Vec<usize> {
     let mut ends = vec![5];
-    let Ok(image) = Image::parse(Rules::PAPER, image) else {
+    let Ok(image) = Image::parse(Rules::DOCUMENT, image) else {
         return ends;
     };
     let room = 5 + image.lists.children.len() * (5 + 4 * 64);
     let mut records = vec![0; room.min(1 << 20)];
     let bytes = image.to_bytes();
     let Ok(completed) =
-        crosscheck::completion::complete(Rules::PAPER, &bytes, prefix, &mut records)
+        crosscheck::completion::complete(Rules::DOCUMENT, &bytes, prefix, &mut records)
     else {
         return ends;
     };

@@ -27,7 +27,7 @@ mod stages;
 
 use comparison::Comparison;
 use random::Random;
-use stages::{bad_lists, damaged, edges, large, lists, paper, placed, program, tiny, wild};
+use stages::{bad_lists, damaged, edges, examples, large, lists, placed, program, tiny, wild};
 use std::process::ExitCode;
 use std::time::Instant;
 
@@ -48,7 +48,7 @@ fn main() -> ExitCode {
         let (compared, seconds) = (comparison.compared - before, start.elapsed().as_secs_f64());
         println!("{name:<16} {compared:>8} comparisons {seconds:>6.1} s");
     };
-    stage("paper examples", &|comparison, _| paper::run(comparison));
+    stage("examples", &|comparison, _| examples::run(comparison));
     stage("all small ones", &|comparison, _| tiny::run(comparison));
     stage("malformed lists", &|comparison, random| bad_lists::run(comparison, random, amount));
     stage("wild images", &|comparison, random| wild::run(comparison, random, amount));

@@ -36,7 +36,7 @@ pub fn any_code_order(random: &mut Random, pairs: &Pairs) -> Vec<u32> {
 /// An image of the pairs with random bases and `spare` unused slots at its end.
 /// Key lengths are not limited, so that too long chains can be made as well.
 pub fn place(random: &mut Random, pairs: &Pairs, labels: Vec<u32>, spare: usize) -> Image {
-    let map = CodeMap::new(Rules::PAPER, labels);
+    let map = CodeMap::new(Rules::DOCUMENT, labels);
     let codes_below = codes_below(pairs, &map);
     let mut slots =
         Slots { nodes: vec![Node::default(); 2], taken: HashSet::from([0, 1]), codes: map.len() };

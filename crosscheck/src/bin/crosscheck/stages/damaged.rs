@@ -17,7 +17,7 @@ pub fn run(comparison: &mut Comparison, random: &mut Random, amount: usize) {
     for _ in 0..1_000 * amount {
         let (mut image, keys) = any_placed(random);
         if random.one_in(2) {
-            image = image_of(Rules::PAPER, &to_bytes(&keys), 16_384).expect("small sets build");
+            image = image_of(Rules::DOCUMENT, &to_bytes(&keys), 16_384).expect("small sets build");
         }
         for _ in 0..30 {
             one(comparison, random, &image, &keys);

@@ -49,7 +49,7 @@ fn full_table(comparison: &mut Comparison) {
 /// Builds with memory of exactly the needed size, and explores the image.
 fn built_once(comparison: &mut Comparison, random: &mut Random, keys: &[Key], queries: usize) {
     let list = to_bytes(keys);
-    let image = image_of(Rules::PAPER, &list, 131_072).expect("the list builds");
+    let image = image_of(Rules::DOCUMENT, &list, 131_072).expect("the list builds");
     let (work, out) = (2 * image.nodes.len(), image.to_bytes().len());
     comparison.call(Call::Build { keys: &list, work, out });
     explore(comparison, random, &image, keys, queries);

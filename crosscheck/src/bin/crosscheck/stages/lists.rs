@@ -36,7 +36,7 @@ pub fn built_and_explored(
     queries: usize,
 ) {
     let list = to_bytes(keys);
-    let Ok(image) = image_of(Rules::PAPER, &list, 131_072) else {
+    let Ok(image) = image_of(Rules::DOCUMENT, &list, 131_072) else {
         comparison.call(Call::Build { keys: &list, work: 131_072, out: 0 });
         return;
     };

@@ -3,9 +3,9 @@
 pub mod bad_lists;
 pub mod damaged;
 pub mod edges;
+pub mod examples;
 pub mod large;
 pub mod lists;
-pub mod paper;
 pub mod placed;
 pub mod program;
 pub mod tiny;

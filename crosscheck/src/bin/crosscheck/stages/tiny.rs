@@ -13,7 +13,7 @@ use crosscheck::rules::Rules;
 
 pub fn run(comparison: &mut Comparison) {
     let p3 = to_bytes(&[vec![0x6E], vec![0x6E, 0x61]]);
-    let image = image_of(Rules::PAPER, &p3, 64).expect("the example builds").to_bytes();
+    let image = image_of(Rules::DOCUMENT, &p3, 64).expect("the example builds").to_bytes();
     every_byte_changed(comparison, &image);
     two_bytes_changed(comparison, &image);
     every_length(comparison, &image);
@@ -78,7 +78,7 @@ fn three_slots(comparison: &mut Comparison) {
     let node = |&base| checks.map(|check| Node { base, check });
     let words: Vec<Node> = bases.iter().flat_map(node).collect();
     for labels in [&[][..], &[0x61], &[0x61, 0x62, 0x63]] {
-        let map = CodeMap::new(Rules::PAPER, labels.to_vec());
+        let map = CodeMap::new(Rules::DOCUMENT, labels.to_vec());
         for (&first, &second) in
             words.iter().flat_map(|first| words.iter().map(move |x| (first, x)))
         {
@@ -106,7 +106,7 @@ fn short_key_sets(comparison: &mut Comparison) {
         for work in 0..40 {
             comparison.call(Call::Build { keys: &list, work, out: 400 });
         }
-        let image = image_of(Rules::PAPER, &list, 400).expect("short keys build").to_bytes();
+        let image = image_of(Rules::DOCUMENT, &list, 400).expect("short keys build").to_bytes();
         comparison.image(&image);
         for query in queries.iter().map(|labels| query_of(labels)) {
             search(comparison, &image, &query, 130);

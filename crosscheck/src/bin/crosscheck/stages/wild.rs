@@ -41,7 +41,7 @@ fn long_walk(random: &mut Random, image: &Image) -> Vec<u32> {
 fn wild(random: &mut Random) -> Image {
     let slots = random.between(2, 12);
     let labels = (0..random.below(6)).map(|_| wild_label(random)).collect();
-    let map = CodeMap::new(Rules::PAPER, labels);
+    let map = CodeMap::new(Rules::DOCUMENT, labels);
     let flag = |random: &mut Random, times: usize| if random.one_in(times) { TOP_BIT } else { 0 };
     let mut nodes = vec![Node::default(); slots];
     for node in &mut nodes {

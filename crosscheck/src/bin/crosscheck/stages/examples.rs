@@ -21,7 +21,7 @@ pub fn run(comparison: &mut Comparison) {
 }
 
 fn built(keys: &[Key]) -> Image {
-    image_of(Rules::PAPER, &to_bytes(keys), 64).expect("the example builds")
+    image_of(Rules::DOCUMENT, &to_bytes(keys), 64).expect("the example builds")
 }
 
 fn example(comparison: &mut Comparison, keys: &[Key]) {
@@ -51,11 +51,11 @@ fn changed_examples(comparison: &mut Comparison, p3: &Image) {
     images[0].lists.children = vec![3, 4, 4, 2];
     images[1].nodes[3].check = 1;
     images[2].nodes[5].base = 7;
-    images[3].map = CodeMap::new(Rules::PAPER, vec![0x6E, 0x6E]);
+    images[3].map = CodeMap::new(Rules::DOCUMENT, vec![0x6E, 0x6E]);
     images[4] = Image {
         nodes: [(0, 0), (0, 0), (2, 3), (3, 2)].map(|(base, check)| Node { base, check }).to_vec(),
         lists: Lists { offsets: vec![0, 0, 0, 1, 2], children: vec![3, 2] },
-        map: CodeMap::new(Rules::PAPER, vec![0x61]),
+        map: CodeMap::new(Rules::DOCUMENT, vec![0x61]),
     };
     for image in images.iter().map(Image::to_bytes) {
         comparison.image(&image);

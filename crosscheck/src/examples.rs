@@ -9,7 +9,7 @@ use crate::listing;
 use crate::oracle;
 use crate::rules::Rules;
 
-const PAPER: Rules = Rules::PAPER;
+const DOCUMENT: Rules = Rules::DOCUMENT;
 const VALUE: u64 = 1 << 32;
 const LONGER: u64 = 1 << 33;
 
@@ -19,7 +19,7 @@ fn refused(number: u64) -> u64 {
 
 fn built(keys: &[&[u32]]) -> Image {
     let keys: Vec<Vec<u32>> = keys.iter().map(|key| key.to_vec()).collect();
-    image_of(PAPER, &to_bytes(&keys), 131_072).expect("the list builds")
+    image_of(DOCUMENT, &to_bytes(&keys), 131_072).expect("the list builds")
 }
 
 fn p3() -> Image {
@@ -31,20 +31,20 @@ fn words(image: &Image) -> Vec<(u32, u32)> {
 }
 
 fn checked(image: &Image) -> u64 {
-    answers::check(PAPER, &image.to_bytes())
+    answers::check(DOCUMENT, &image.to_bytes())
 }
 
 fn exact(image: &Image, labels: &[u32]) -> u64 {
-    answers::exact(PAPER, &image.to_bytes(), &query_of(labels))
+    answers::exact(DOCUMENT, &image.to_bytes(), &query_of(labels))
 }
 
 fn probe(image: &Image, labels: &[u32]) -> u64 {
-    answers::probe(PAPER, &image.to_bytes(), &query_of(labels))
+    answers::probe(DOCUMENT, &image.to_bytes(), &query_of(labels))
 }
 
 fn records(image: &Image) -> Vec<u8> {
     let mut room = vec![0; 100];
-    answers::complete(PAPER, &image.to_bytes(), &[], &mut room);
+    answers::complete(DOCUMENT, &image.to_bytes(), &[], &mut room);
     room
 }
 
@@ -91,11 +91,11 @@ fn p4_exact() {
 fn p5_prefixes() {
     let (image, query) = (p3().to_bytes(), query_of(&[0x6E, 0x61, 0x6E]));
     let mut places = [9; 131];
-    assert_eq!(answers::prefixes(PAPER, &image, &query, &mut places), 2);
+    assert_eq!(answers::prefixes(DOCUMENT, &image, &query, &mut places), 2);
     assert_eq!(places[..4], [1, 0, 2, 1]);
     assert_eq!(places[4..130], [0; 126]);
     assert_eq!(places[130], 9);
-    assert_eq!(answers::longest(PAPER, &image, &query), 2);
+    assert_eq!(answers::longest(DOCUMENT, &image, &query), 2);
 }
 
 #[test]
@@ -111,7 +111,7 @@ fn p7_child_twice() {
     let mut image = p3();
     image.lists.children = vec![3, 4, 4, 2];
     assert_eq!(checked(&image), refused(11));
-    assert_eq!(answers::complete(PAPER, &image.to_bytes(), &[], &mut [0; 100]), refused(11));
+    assert_eq!(answers::complete(DOCUMENT, &image.to_bytes(), &[], &mut [0; 100]), refused(11));
     assert_eq!(exact(&image, &[0x6E, 0x61]), VALUE + 1);
     assert_eq!(oracle::set_of(&image), None);
 }
@@ -130,11 +130,11 @@ fn p8_wrong_slots() {
 #[test]
 fn p9_label_twice_and_length() {
     let mut image = p3();
-    image.map = CodeMap::new(PAPER, vec![0x6E, 0x6E]);
+    image.map = CodeMap::new(DOCUMENT, vec![0x6E, 0x6E]);
     assert_eq!(checked(&image), refused(9));
     let mut longer = p3().to_bytes();
     longer.push(0);
-    assert_eq!(answers::check(PAPER, &longer), refused(6));
+    assert_eq!(answers::check(DOCUMENT, &longer), refused(6));
 }
 
 #[test]
@@ -143,7 +143,7 @@ fn p10_cycle() {
     let image = Image {
         nodes: vec![node(0, 0), node(0, 0), node(2, 3), node(3, 2)],
         lists: Lists { offsets: vec![0, 0, 0, 1, 2], children: vec![3, 2] },
-        map: CodeMap::new(PAPER, vec![0x61]),
+        map: CodeMap::new(DOCUMENT, vec![0x61]),
     };
     assert_eq!(checked(&image), refused(12));
     assert_eq!(oracle::set_of(&image), None);
@@ -163,19 +163,19 @@ fn p11_code_order() {
 
 #[test]
 fn run_examples() {
-    let refusal = |key: &[u32]| image_of(PAPER, &to_bytes(&[key.to_vec()]), 1_000).err();
+    let refusal = |key: &[u32]| image_of(DOCUMENT, &to_bytes(&[key.to_vec()]), 1_000).err();
     assert_eq!(refusal(&[7; 64]), None);
     assert_eq!(refusal(&[7; 65]), Some(Refusal(17)));
     assert_eq!(refusal(&[0xD7FF]), None);
     assert_eq!(refusal(&[0xD800]), Some(Refusal(18)));
     let equal = to_bytes(&[vec![7], vec![7]]);
-    assert_eq!(image_of(PAPER, &equal, 1_000).err(), Some(Refusal(19)));
+    assert_eq!(image_of(DOCUMENT, &equal, 1_000).err(), Some(Refusal(19)));
 }
 
 #[test]
 fn listing_program() {
     let list = to_bytes(&[vec![0x6E], vec![0x6E, 0x61]]);
-    assert_eq!(listing::text(PAPER, &list), "pairs 2\n0 6E\n1 6E 61\n");
-    assert_eq!(listing::text(PAPER, &[]), "refused 15\n");
-    assert_eq!(listing::text(PAPER, &to_bytes(&[vec![0]])), "pairs 1\n0 0\n");
+    assert_eq!(listing::text(DOCUMENT, &list), "pairs 2\n0 6E\n1 6E 61\n");
+    assert_eq!(listing::text(DOCUMENT, &[]), "refused 15\n");
+    assert_eq!(listing::text(DOCUMENT, &to_bytes(&[vec![0]])), "pairs 1\n0 0\n");
 }

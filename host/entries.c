@@ -1,0 +1,74 @@
+/*
+ * entries: calls each function of lxtr.h on a dictionary of two words, n (value 0) and na (value 1), and then on its image with
+ * one entry of the children lists changed: every lookup still succeeds, and only the check and completions see the fault.
+ *
+ *     entries
+ */
+#include <inttypes.h>
+#include <stdio.h>
+#include <string.h>
+
+#include "lxtr.h"
+
+static const uint8_t keys[] = { 1, 0, 0, 0, 2, 1, 0, 0, 0, 'n', 2, 0, 0, 0, 'n', 0, 0, 0, 'a' };
+static const uint8_t text[] = { 0, 0, 0, 'n', 0, 0, 0, 'a', 0, 0, 0, 'n' };
+
+/* Bytes of the front parts n and na of the text. */
+enum { N = 4, NA = 8 };
+
+/* 7 slots, 4 children and a code map of 13 bytes. Child 2 lies behind 24 bytes, 8 for each slot, 8 offsets and two children. */
+enum { IMAGE_BYTES = 141, CHILD_2 = 24 + 8 * 7 + 4 * 8 + 4 * 2 };
+
+static void show(const char *what, uint64_t answer)
+{
+	printf("%-16s refusal %u, more %d, value %d, number %" PRIu32 "\n", what, lxtr_refusal(answer), lxtr_more(answer),
+	       lxtr_has_value(answer), lxtr_number(answer));
+}
+
+static void show_bytes(const uint8_t *bytes, size_t length)
+{
+	for (size_t i = 0; i < length; i++)
+		printf(" %02X", bytes[i]);
+	printf("\n");
+}
+
+static void show_answers(const uint8_t *image, size_t length)
+{
+	uint32_t places[5] = { 7, 7, 7, 7, 7 };
+	uint8_t room[29];
+
+	show("check", lxtr_check(image, length));
+	show("exact na", lxtr_exact(image, length, text, NA));
+	show("exact (empty)", lxtr_exact(image, length, NULL, 0));
+	show("probe n", lxtr_probe(image, length, text, N));
+	show("probe na", lxtr_probe(image, length, text, NA));
+	show("longest nan", lxtr_longest(image, length, text, sizeof text));
+	show("longest, cut", lxtr_longest(image, length, text, sizeof text - 1));
+	show("prefixes nan", lxtr_prefixes(image, length, text, sizeof text, places, 5));
+	printf("places           %" PRIu32 " %" PRIu32 " %" PRIu32 " %" PRIu32 " %" PRIu32 "\n", places[0], places[1], places[2],
+	       places[3], places[4]);
+	memset(room, 0xEE, sizeof room);
+	show("complete", lxtr_complete(image, length, NULL, 0, room, sizeof room));
+	printf("room            ");
+	show_bytes(room, sizeof room);
+	show("complete in 20", lxtr_complete(image, length, NULL, 0, room, 20));
+	show("complete in 4", lxtr_complete(image, length, text, N, room, 4));
+}
+
+int main(void)
+{
+	uint32_t work[14];
+	uint8_t image[IMAGE_BYTES];
+
+	show("build, work 12", lxtr_build(keys, sizeof keys, work, 12, image, sizeof image));
+	show("build, out 140", lxtr_build(keys, sizeof keys, work, 14, image, sizeof image - 1));
+	show("build", lxtr_build(keys, sizeof keys, work, 14, image, sizeof image));
+	show_answers(image, sizeof image);
+	printf("\nchild 2 is slot %d, now 4\n", image[CHILD_2]);
+	image[CHILD_2] = 4;
+	show_answers(image, sizeof image);
+	printf("\n");
+	show("check, no bytes", lxtr_check(NULL, 0));
+	show("build, nothing", lxtr_build(NULL, 0, NULL, 0, NULL, 0));
+	return 0;
+}
