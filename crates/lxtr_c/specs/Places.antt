@@ -32,7 +32,7 @@ module _ (xs ys : List ℕ) where
   word-of (suc n) k (suc j) t h l =
       let two : 2 * suc j + t ≡ suc (suc (2 * j + t)) = omega arith in
       let next : k + 1 + j ≡ k + suc j = omega arith in
-      rw (two, ← next) (word-of n (k + 1) j t (omega arith) l)
+      rw two (word-of n (k + 1) j t (omega arith) l ∙ ap (λ (i : ℕ). getD (placeWords xs ys i) t 0) next)
 
   module _ (i : ℕ) (h : i < 2 * lengthCount) where
     word-is : (t : ℕ) → i % 2 ≡ t → getD (placeWords xs ys (i / 2)) t 0 ≡ getD (alternately xs ys) i 0
