@@ -1,7 +1,7 @@
 // Runs refusals 1 to 8 on small images, on each bound from both sides and with two faults at once, and prints the numbers.
 ghost use Prim.Native.Nat.{_<_};
 use libc::STDOUT_FILENO;
-use lxtr_image::header::header_refusal;
+use lxtr_header::header_refusal;
 
 // P1, the image of no keys, in the first 57 bytes: N is 2, E is 0, M is 5. After it, room for 4,096 labels.
 fn no_keys() -> [u8; 16441] {

@@ -15,7 +15,7 @@ use crate::lists::lists_wrong;
 use crate::reach::some_unreachable;
 use crate::slots::is_used_from_2;
 use crate::slots::slots_wrong;
-use lxtr_image::header::header_refusal;
+use lxtr_header::header_refusal;
 use lxtr_image::nodes::is_leaf;
 use lxtr_image::sections::slot_count;
 use lxtr_spec::Verdict;

@@ -4,7 +4,7 @@ ghost use Prim.Native.Nat.{_<_};
 ghost use lib.ListN.{length, getD};
 ghost use Rattle.lxtr_spec.specs.Labels.{labelsOf};
 ghost use Rattle.lxtr_spec.specs.Searches.{searchRefusal};
-use lxtr_image::header::header_refusal;
+use lxtr_header::header_refusal;
 use lxtr_image::words::be32_at;
 
 pub fn label_count(query: &[u8]) -> usize

@@ -2,8 +2,8 @@
 use borrow.Author.Needs.{needs}
 use borrow.Author.Tests.{lt-ltb, le-ltb}
 use Rattle.lxtr_spec.specs.Refusals.{mapWrong}
-use Rattle.lxtr_image.proofs.header.map_wrong.Statement.{statement}
-use Rattle.lxtr_image.proofs.header.map_wrong.Tie as tie
+use Rattle.lxtr_header.proofs.map_wrong.Statement.{statement}
+use Rattle.lxtr_header.proofs.map_wrong.Tie as tie
 
 pub map-wrong-spec : {M : Type 1} → statement M
 unfolding mapWrong

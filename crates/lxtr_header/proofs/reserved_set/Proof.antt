@@ -1,8 +1,8 @@
 -- The code says what the rule says.
 use borrow.Author.Needs.{needs}
 use Rattle.lxtr_spec.specs.Refusals.{reservedSet}
-use Rattle.lxtr_image.proofs.header.reserved_set.Statement.{statement}
-use Rattle.lxtr_image.proofs.header.reserved_set.Tie as tie
+use Rattle.lxtr_header.proofs.reserved_set.Statement.{statement}
+use Rattle.lxtr_header.proofs.reserved_set.Tie as tie
 
 pub reserved-set-spec : {M : Type 1} → statement M
 unfolding reservedSet

@@ -5,8 +5,8 @@ use borrow.Author.Tests.{lt-ltb, le-ltb}
 use Rattle.lxtr_spec.specs.Refusals.{tooShort, headerRefusal}
 use Rattle.lxtr_laws.specs.Refusing.{chain}
 use Rattle.lxtr_laws.specs.Passed.{sized-by, whole-by}
-use Rattle.lxtr_image.proofs.header.header_refusal.Statement.{statement}
-use Rattle.lxtr_image.proofs.header.header_refusal.Tie as tie
+use Rattle.lxtr_header.proofs.header_refusal.Statement.{statement}
+use Rattle.lxtr_header.proofs.header_refusal.Tie as tie
 
 -- what is known after refusal 5, and after 6
 sized-there : tie.Need-length-wrong-requires

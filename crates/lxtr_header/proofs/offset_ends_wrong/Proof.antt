@@ -1,8 +1,8 @@
 -- The code says what the rule says.
 use borrow.Author.Needs.{needs}
 use Rattle.lxtr_spec.specs.Refusals.{offsetEndsWrong}
-use Rattle.lxtr_image.proofs.header.offset_ends_wrong.Statement.{statement}
-use Rattle.lxtr_image.proofs.header.offset_ends_wrong.Tie as tie
+use Rattle.lxtr_header.proofs.offset_ends_wrong.Statement.{statement}
+use Rattle.lxtr_header.proofs.offset_ends_wrong.Tie as tie
 
 pub offset-ends-wrong-spec : {M : Type 1} → statement M
 unfolding offsetEndsWrong

@@ -1,18 +1,19 @@
-// Refusals 1 to 8, each fault as a test.
+// The refusals of an image's header, 1 to 8, over any bytes: each fault as a test, then the first that holds. Any caller may use
+// `header_refusal`.
 ghost use mathlib.Core.Path.{_≡_};
 ghost use Prim.Native.Nat.{_≤_};
 ghost use lib.ListN.{length};
 ghost use Rattle.lxtr_spec.specs.Image.{headerLength};
 ghost use Rattle.lxtr_spec.specs.Refusals.{magicDiffers, versionWrong, reservedSet, sizesWrong, lengthWrong, mapWrong, offsetEndsWrong, headerRefusal};
 ghost use Rattle.lxtr_laws.specs.Passed.{Sized, Whole};
-use crate::code_map::label_count;
-use crate::code_map::map_version;
-use crate::lists::offset_at;
-use crate::sections::HEADER_LENGTH;
-use crate::sections::child_count;
-use crate::sections::map_at;
-use crate::sections::map_length;
-use crate::sections::slot_count;
+use lxtr_image::code_map::label_count;
+use lxtr_image::code_map::map_version;
+use lxtr_image::lists::offset_at;
+use lxtr_image::sections::HEADER_LENGTH;
+use lxtr_image::sections::child_count;
+use lxtr_image::sections::map_at;
+use lxtr_image::sections::map_length;
+use lxtr_image::sections::slot_count;
 use lxtr_spec::MAX_LISTED;
 use lxtr_spec::MAX_SLOTS;
 use lxtr_spec::MIN_SLOTS;

@@ -2,8 +2,8 @@
 use borrow.Author.Needs.{needs}
 use borrow.Author.Tests.{lt-ltb, le-ltb}
 use Rattle.lxtr_spec.specs.Refusals.{sizesWrong}
-use Rattle.lxtr_image.proofs.header.sizes_wrong.Statement.{statement}
-use Rattle.lxtr_image.proofs.header.sizes_wrong.Tie as tie
+use Rattle.lxtr_header.proofs.sizes_wrong.Statement.{statement}
+use Rattle.lxtr_header.proofs.sizes_wrong.Tie as tie
 
 pub sizes-wrong-spec : {M : Type 1} → statement M
 unfolding sizesWrong

@@ -1,8 +1,8 @@
 -- The sum is taken in 64 bits, where it cannot wrap.
 use borrow.Author.Needs.{needs}
 use Rattle.lxtr_spec.specs.Refusals.{lengthWrong}
-use Rattle.lxtr_image.proofs.header.length_wrong.Statement.{statement}
-use Rattle.lxtr_image.proofs.header.length_wrong.Tie as tie
+use Rattle.lxtr_header.proofs.length_wrong.Statement.{statement}
+use Rattle.lxtr_header.proofs.length_wrong.Tie as tie
 
 pub length-wrong-spec : {M : Type 1} → statement M
 unfolding lengthWrong

@@ -3,8 +3,8 @@ use borrow.Author.Needs.{needs}
 use Rattle.lxtr_spec.specs.Ranges.{anyBelow}
 use Rattle.lxtr_spec.specs.Image.{magic}
 use Rattle.lxtr_spec.specs.Refusals.{byteDiffers, magicDiffers}
-use Rattle.lxtr_image.proofs.header.magic_differs.Statement.{statement}
-use Rattle.lxtr_image.proofs.header.magic_differs.Tie as tie
+use Rattle.lxtr_header.proofs.magic_differs.Statement.{statement}
+use Rattle.lxtr_header.proofs.magic_differs.Tie as tie
 
 pub magic-differs-spec : {M : Type 1} → statement M
 unfolding magicDiffers byteDiffers anyBelow magic
