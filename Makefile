@@ -13,7 +13,7 @@ EXAMPLES = header_refusals check_examples search_examples completion_examples bu
 
 examples:
 	$(call quietly,rt check $(EXAMPLES))
-	@for program in $(EXAMPLES); do target/bin/$$program; done
+	@for program in $(EXAMPLES); do target/bin/$$program || exit 1; done
 
 # target/staticlib/liblxtr_c.a, for programs in C.
 archive:

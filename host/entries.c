@@ -1,6 +1,6 @@
 /*
  * entries: calls each function of lxtr.h on a dictionary of two words, n (value 0) and na (value 1), and then on its image with
- * one entry of the children lists changed: every lookup still succeeds, and only the check and completions see the fault.
+ * one child changed in the children lists: every lookup still succeeds, and only the check and completions see the fault.
  *
  *     entries
  */

@@ -8,20 +8,22 @@
 #include <stdint.h>
 #include <stdio.h>
 
-/* Reads the file into room and returns its length. One that is longer than the room gives a length above it. -1 on error. */
+/*
+ * Reads the file into room, as far as it goes, and returns how many bytes these are; -1 on error. Room of one byte more than the
+ * longest file that is right shows a longer one.
+ */
 static inline long read_file(const char *name, uint8_t *room, size_t room_length)
 {
 	FILE *file = fopen(name, "rb");
 	if (file == NULL)
 		return -1;
 	size_t length = fread(room, 1, room_length, file);
-	int longer = length == room_length && getc(file) != EOF;
-	int failed = ferror(file);
+	long read = ferror(file) ? -1 : (long)length;
 	fclose(file);
-	return failed ? -1 : (long)length + longer;
+	return read;
 }
 
-/* Writes the bytes to the file. Returns 0, or -1 on error. */
+/* Writes the bytes to the file. Returns 0, or -1 on error; the file may then hold a part of them. */
 static inline int write_file(const char *name, const uint8_t *bytes, size_t length)
 {
 	FILE *file = fopen(name, "wb");

@@ -1,11 +1,12 @@
 /*
- * station: a programming station in small. It builds the image of a key list, checks it, and writes it to a file.
+ * station: a small programming station. It builds the image of a key list, checks it, and writes it to a file.
  *
  *     station KEYS IMAGE
  *
  * The file is written only if nothing is refused.
  */
 #include <errno.h>
+#include <inttypes.h>
 #include <string.h>
 
 #include "files.h"
@@ -43,6 +44,6 @@ int main(int argc, char **argv)
 	}
 	if (write_file(argv[2], image, lxtr_number(built)) != 0)
 		return failed(argv[2]);
-	printf("image: %u keys, %u bytes\n", lxtr_number(checked), lxtr_number(built));
+	printf("image: %" PRIu32 " keys, %" PRIu32 " bytes\n", lxtr_number(checked), lxtr_number(built));
 	return 0;
 }

@@ -1,9 +1,10 @@
 /*
- * terminal: a terminal's host program in small. It loads an image, types a prefix label by label, and shows the completions.
+ * terminal: a small host program of a terminal. It loads an image, types a prefix label by label, and shows the completions.
  *
  *     terminal IMAGE PREFIX
  */
 #include <errno.h>
+#include <inttypes.h>
 #include <string.h>
 
 #include "files.h"
@@ -25,7 +26,7 @@ static void show_probe(const char *text, size_t length, uint64_t answer)
 {
 	printf("%.*s: ", (int)length, text);
 	if (lxtr_has_value(answer))
-		printf("value %u, ", lxtr_number(answer));
+		printf("value %" PRIu32 ", ", lxtr_number(answer));
 	else
 		printf("no key, ");
 	printf("%s\n", lxtr_more(answer) ? "longer keys" : "no longer keys");
@@ -40,7 +41,7 @@ static void show_records(uint32_t count)
 		printf("  ");
 		for (; labels > 0; labels--, at += 4)
 			write_character(label_at(at), stdout);
-		printf(" %u\n", label_at(at));
+		printf(" %" PRIu32 "\n", label_at(at));
 		at += 4;
 	}
 }
@@ -59,7 +60,7 @@ int main(int argc, char **argv)
 	uint64_t checked = lxtr_check(image, (size_t)length);
 	if (lxtr_refusal(checked) != 0)
 		return refused("image", checked);
-	printf("image: %u keys\n", lxtr_number(checked));
+	printf("image: %" PRIu32 " keys\n", lxtr_number(checked));
 
 	/* A query beyond the longest key matches nothing, so one label more than that is enough. */
 	uint8_t query[4 * (LXTR_MAX_LABELS + 1)];
@@ -81,7 +82,7 @@ int main(int argc, char **argv)
 	uint64_t listed = lxtr_complete(image, (size_t)length, query, query_length, room, sizeof room);
 	if (lxtr_refusal(listed) != 0)
 		return refused("completions", listed);
-	printf("completions: %u%s\n", lxtr_number(listed), lxtr_more(listed) ? ", and more" : "");
+	printf("completions: %" PRIu32 "%s\n", lxtr_number(listed), lxtr_more(listed) ? ", and more" : "");
 	show_records(lxtr_number(listed));
 	return 0;
 }

@@ -2,7 +2,8 @@
  * lxtr.h: LXTR images, version 3, for programs in C (C99 or later) and C++.
  *
  * An LXTR image is one block of bytes that holds a dictionary: a set of keys, each with a value number. It is a double-array
- * trie, made by lxtr_build and read in place by the other functions. Link with liblxtr_c.a; it needs only memcpy and memset.
+ * trie, made by lxtr_build and read in place by the other functions. Link with liblxtr_c.a, which is for x86-64 Linux; it needs only
+ * memcpy and memset.
  *
  * WORDS USED HERE
  *
@@ -44,6 +45,12 @@
  * 24 bytes: "LXTR", a version byte 3, three zeros, N, E and M in four bytes each, four zeros. N slots of two words, base and
  * check. N + 1 offsets. E children. M bytes of code map: a version byte 1, the number L of labels in four bytes, L labels of four
  * bytes. Numbers have their lowest byte first, in the code map their highest.
+ *
+ * Slot 1 stands for the empty front part of the keys, every other used slot for a longer front part or for the end of a key. The
+ * check word of a slot holds its parent, the slot one step shorter, and in its top bit whether a key ends there. The base word
+ * holds a number that, XOR a label's code, gives the child's slot, and XOR 0 the end's; that of an end holds the value, with the
+ * top bit set. A slot from 2 up whose parent is 0 is unused. The children of slot p are those from offset p up to offset p + 1,
+ * by ascending code.
  */
 #ifndef LXTR_H
 #define LXTR_H
@@ -87,9 +94,9 @@ enum lxtr_reason {
 
 	/* of an image, by lxtr_check and lxtr_complete, in this order */
 	LXTR_WRONG_LABELS = 9,         /* a listed label is no scalar value, or is listed twice */
-	LXTR_WRONG_SLOTS = 10,         /* a slot contradicts its parent, its end, or that it is unused; lookups read slots */
-	LXTR_WRONG_LISTS = 11,         /* a children list contradicts the slots; completions read lists, and lookups do not */
-	LXTR_UNREACHABLE = 12,         /* a used slot does not reach the root by 65 or fewer steps to the parent */
+	LXTR_WRONG_SLOTS = 10,         /* a slot contradicts its parent, its end, or that it is unused; every search reads slots */
+	LXTR_WRONG_LISTS = 11,         /* a children list contradicts the slots; completions read the lists, lxtr_probe their lengths */
+	LXTR_UNREACHABLE = 12,         /* a used slot does not reach slot 1 by 65 or fewer steps to the parent */
 
 	/* of a query, and of the room of lxtr_complete */
 	LXTR_WRONG_QUERY_LENGTH = 13,  /* the query's length is no multiple of four */
@@ -103,7 +110,7 @@ enum lxtr_reason {
 	LXTR_KEYS_NOT_ASCENDING = 19,  /* a key that is not above the key before it */
 	LXTR_TOO_MANY_LABELS = 20,     /* more than 4,095 different labels */
 	LXTR_WORK_TOO_SMALL = 21,      /* fewer than 4 words of work */
-	LXTR_TOO_FEW_SLOTS = 22,       /* lend more work; with LXTR_MAX_WORK_WORDS, the list is too large for an image */
+	LXTR_TOO_FEW_SLOTS = 22,       /* no place for some slot: lend more work; with LXTR_MAX_WORK_WORDS, this list cannot be built */
 	LXTR_OUT_TOO_SMALL = 23        /* the image is longer than out */
 };
 
@@ -161,17 +168,17 @@ uint64_t lxtr_longest(const uint8_t *image, size_t image_length, const uint8_t *
  * count. Refusals: 1 to 8, then 13.
  *
  * Afterwards places holds, for each key found, its length in labels and then its value, shortest key first, and zeros
- * behind the last up to LXTR_PREFIX_WORDS words. Words past those are as they were. If there are fewer places, they
- * hold the front of this; the number is the same. places_length counts words.
+ * behind the last up to LXTR_PREFIX_WORDS words. Words past those are as they were. If places has fewer words, it holds the
+ * front of this; the number is the same. places_length counts words.
  */
 uint64_t lxtr_prefixes(const uint8_t *image, size_t image_length, const uint8_t *query, size_t query_length,
                        uint32_t *places, size_t places_length);
 
 /*
  * Lists the keys that begin with a prefix, the prefix itself if it is a key, in code order. The number is how many records are in
- * the room. "More" says that the listing stopped before a record that had no room; call again with more room for the rest.
+ * the room. "More" says that the listing stopped before a record that had no room; call again with more room to have them all.
  * A prefix that begins no key, or beyond 64 labels, has no records. Refusals: 1 to 8, 13, 9 to 12, 14, in this order: each call
- * checks the whole image, which takes about a millisecond for the largest.
+ * checks the whole image, which takes up to a few milliseconds for the largest.
  *
  * Afterwards the room holds a version byte 1, the number of records in four bytes, and the records one after the other. A
  * record is a byte with the number of labels of the key, all labels of the key (those of the prefix too) in four bytes each, and

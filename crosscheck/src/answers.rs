@@ -54,21 +54,29 @@ pub fn longest(rules: Rules, image: &[u8], query: &[u8]) -> u64 {
 
 /// `places` holds the front of 65 pairs of length and value, as far as it goes.
 pub fn prefixes(rules: Rules, image: &[u8], query: &[u8], places: &mut [u32]) -> u64 {
-    number(search::prefixes(rules, image, query), |matches| {
+    let found = search::prefixes(rules, image, query);
+    if found.is_err() && rules.breaks(Wrong::PlacesClearedByRefusal) {
+        places.fill(0);
+    }
+    number(found, |matches| {
         let mut words: Vec<u32> =
             matches.iter().flat_map(|found| [found.0 as u32, found.1]).collect();
         if rules.keeps(Wrong::PlacesBehindStay) {
             words.resize(PLACE_WORDS, 0);
         }
-        places.iter_mut().zip(words).for_each(|(place, word)| *place = word);
+        if places.len() >= PLACE_WORDS || rules.keeps(Wrong::FewPlacesStay) {
+            places.iter_mut().zip(words).for_each(|(place, word)| *place = word);
+        }
         matches.len() as u64
     })
 }
 
 pub fn complete(rules: Rules, image: &[u8], prefix: &[u8], room: &mut [u8]) -> u64 {
-    number(completion::complete(rules, image, prefix, room), |completed| {
-        flag(completed.stopped) + u64::from(completed.count)
-    })
+    let completed = completion::complete(rules, image, prefix, room);
+    if completed.is_err() && rules.breaks(Wrong::RoomClearedByRefusal) {
+        room.fill(0);
+    }
+    number(completed, |completed| flag(completed.stopped) + u64::from(completed.count))
 }
 
 pub fn build(rules: Rules, keys: &[u8], work: &mut [u32], out: &mut [u8]) -> u64 {

@@ -96,6 +96,8 @@ wrong_variants! {
     PrefixesStopAt63: "only the first 63 labels count for prefixes",
     PrefixesPast64Labels: "prefixes go past 64 labels",
     PlacesBehindStay: "places past the count are not zeroed",
+    PlacesClearedByRefusal: "refused prefixes clear the places",
+    FewPlacesStay: "fewer than 130 places are left as they were",
     LongestIsTheWalk: "longest answers how far the walk went",
     ProbePast64Labels: "probe goes past 64 labels",
     EndCountsAsLonger: "longer keys exist wherever a list is not empty",
@@ -110,6 +112,7 @@ wrong_variants! {
     StopNotTold: "a listing that stopped does not say so",
     GoesOnAfterStop: "a shorter record is written after one without room",
     RoomBehindCleared: "bytes past the last record are cleared",
+    RoomClearedByRefusal: "a refused completion clears its room",
     // The key list.
     KeyLimit32767: "a count of 32,768 is refused",
     SixtyFiveLabels: "a key may have 65 labels",

@@ -1,12 +1,30 @@
 -- Document 01's examples P1 to P11 as one table: the definitions compute to what stands there. P1 to P3 and P11 are also built.
--- Not in the document, but beside its examples: the listings of P1 to P3, the last four rows of P5, and the numbers for the host program.
+-- Not in the document, but beside its examples: P3's bytes in one row, the listings of P1 to P3, the last four rows of P5, and the numbers for the host program.
+use Prim.Native.Nat.{ℕ}
 use mathlib.Core.Path.{refl}
 use mathlib.Core.List.{List, [], _∷_, _++_}
 use mathlib.Core.Option.{some, none}
 use mathlib.Core.Bool.{true, false}
 use lib.ListN.{replicate}
 use Rattle.lxtr_spec.specs.Samples.{p1, p2, p3, p7, p8-check, p8-slot, p9-labels, p9-longer, p10, p11}
-use Rattle.lxtr_demands.specs.Rows.{Example, image-length, accepted, refused, exact, prefixes, prefix-words, longest, probe, completes, builds, AllHold, _and_, computing}
+use Rattle.lxtr_demands.specs.Rows.{Example, image-bytes, image-length, accepted, refused, exact, prefixes, prefix-words, longest, probe, completes, builds, AllHold, _and_, computing}
+
+-- P3's bytes: header, slots 0 to 6, offsets, children, code map
+unfoldable pub p3-bytes : List ℕ
+p3-bytes =
+    0x4C ∷ 0x58 ∷ 0x54 ∷ 0x52 ∷ 3 ∷ 0 ∷ 0 ∷ 0
+    ∷ 7 ∷ 0 ∷ 0 ∷ 0 ∷ 4 ∷ 0 ∷ 0 ∷ 0 ∷ 0x0D ∷ 0 ∷ 0 ∷ 0 ∷ 0 ∷ 0 ∷ 0 ∷ 0
+    ∷ 0 ∷ 0 ∷ 0 ∷ 0 ∷ 0 ∷ 0 ∷ 0 ∷ 0
+    ∷ 2 ∷ 0 ∷ 0 ∷ 0 ∷ 0 ∷ 0 ∷ 0 ∷ 0
+    ∷ 1 ∷ 0 ∷ 0 ∷ 0x80 ∷ 6 ∷ 0 ∷ 0 ∷ 0
+    ∷ 4 ∷ 0 ∷ 0 ∷ 0 ∷ 1 ∷ 0 ∷ 0 ∷ 0x80
+    ∷ 0 ∷ 0 ∷ 0 ∷ 0x80 ∷ 3 ∷ 0 ∷ 0 ∷ 0
+    ∷ 0 ∷ 0 ∷ 0 ∷ 0 ∷ 0 ∷ 0 ∷ 0 ∷ 0
+    ∷ 2 ∷ 0 ∷ 0 ∷ 0 ∷ 3 ∷ 0 ∷ 0 ∷ 0x80
+    ∷ 0 ∷ 0 ∷ 0 ∷ 0 ∷ 0 ∷ 0 ∷ 0 ∷ 0 ∷ 1 ∷ 0 ∷ 0 ∷ 0 ∷ 1 ∷ 0 ∷ 0 ∷ 0
+    ∷ 3 ∷ 0 ∷ 0 ∷ 0 ∷ 3 ∷ 0 ∷ 0 ∷ 0 ∷ 3 ∷ 0 ∷ 0 ∷ 0 ∷ 4 ∷ 0 ∷ 0 ∷ 0
+    ∷ 3 ∷ 0 ∷ 0 ∷ 0 ∷ 4 ∷ 0 ∷ 0 ∷ 0 ∷ 6 ∷ 0 ∷ 0 ∷ 0 ∷ 2 ∷ 0 ∷ 0 ∷ 0
+    ∷ 1 ∷ 0 ∷ 0 ∷ 0 ∷ 2 ∷ 0 ∷ 0 ∷ 0 ∷ 0x6E ∷ 0 ∷ 0 ∷ 0 ∷ 0x61 ∷ []
 
 unfoldable pub examples : List Example
 examples =
@@ -16,6 +34,7 @@ examples =
     ∷ builds ([] ∷ []) 6 p2 ∷ image-length p2 73 ∷ accepted p2 1 ∷ completes p2 [] (([], 0) ∷ []) (1 ∷ 0 ∷ 0 ∷ 0 ∷ 1 ∷ 0 ∷ 0 ∷ 0 ∷ 0 ∷ 0 ∷ [])
     -- P3
     ∷ builds ((0x6E ∷ []) ∷ (0x6E ∷ 0x61 ∷ []) ∷ []) 14 p3 ∷ image-length p3 141 ∷ accepted p3 2
+    ∷ image-bytes p3 p3-bytes
     ∷ completes p3 [] ((0x6E ∷ [], 0) ∷ (0x6E ∷ 0x61 ∷ [], 1) ∷ [])
     (1 ∷ 0 ∷ 0 ∷ 0 ∷ 2 ∷ 1 ∷ 0 ∷ 0 ∷ 0 ∷ 0x6E ∷ 0 ∷ 0 ∷ 0 ∷ 0 ∷ 2 ∷ 0 ∷ 0 ∷ 0 ∷ 0x6E ∷ 0 ∷ 0 ∷ 0 ∷ 0x61 ∷ 0 ∷ 0 ∷ 0 ∷ 1 ∷ [])
     -- P4
@@ -40,11 +59,11 @@ examples =
     ∷ []
 
 pub examples-hold : AllHold examples
-unfolding examples computing
+unfolding examples p3-bytes computing
 examples-hold =
     (refl, refl) and refl and (refl, refl) and (refl, refl, refl)
     and (refl, refl) and refl and (refl, refl) and (refl, refl, refl)
-    and (refl, refl) and refl and (refl, refl) and (refl, refl, refl)
+    and (refl, refl) and refl and (refl, refl) and refl and (refl, refl, refl)
     and (refl, refl) and (refl, refl) and (refl, refl) and (refl, refl)
     and refl and refl and refl and refl and (refl, refl)
     and (refl, refl) and (refl, refl) and (refl, refl) and (refl, refl)

@@ -24,6 +24,8 @@ use Rattle.lxtr_spec.specs.Samples.{p1, p2, nodes3, offsets3, children3, labels
 
 -- what is run, and what it gives; a query is given by its labels
 pub data Example : Type 0 where
+  -- an image, its bytes written out
+  image-bytes : List ℕ → List ℕ → Example
   -- an image and its length in bytes
   image-length : List ℕ → ℕ → Example
   -- an accepted image, the number of its pairs
@@ -67,6 +69,7 @@ unset n = replicate n 7
 
 -- what an example says, for the answer, the number for the host program and the lent memory
 abbrev pub Holds : Example → Type 0
+Holds (image-bytes b bytes) = b ≡ bytes
 Holds (image-length b n) = length b ≡ n
 Holds (accepted b n) = (checkOf b ≡ record { refusal = 0; pairs = n }) × (checkNumber b ≡ n)
 Holds (refused b k) =
@@ -84,6 +87,7 @@ Holds (query-refused b q k) =
     × (prefixesOf b q ≡ record { refusal = k; count = 0; lengths = replicate lengthCount 0; values = replicate lengthCount 0 })
     × (longestOf b q ≡ record { refusal = k; part = [] }) × (longestNumber b q ≡ k * 2 ^ 40)
     × (probeOf b q ≡ record { refusal = k; value = none; longer = false }) × (probeNumber b q ≡ k * 2 ^ 40)
+    × (hostPrefixesOf b q (unset 3) ≡ record { number = k * 2 ^ 40; places = unset 3 })
 Holds (completion-refused b q n k) =
     (completionOf b q (unwritten n) ≡ record { answer = record { refusal = k; count = 0; stopped = false }; room = unwritten n })
     × (hostCompletionOf b q (unwritten n) ≡ record { number = k * 2 ^ 40; room = unwritten n })

@@ -46,7 +46,7 @@ readings =
 pub readings-hold : AllHold readings
 unfolding readings own-child computing
 readings-hold =
-    (refl, refl, refl, refl, refl, refl, refl) and (refl, refl, refl, refl, refl, refl, refl)
+    (refl, refl, refl, refl, refl, refl, refl, refl) and (refl, refl, refl, refl, refl, refl, refl, refl)
     and (refl, refl) and (refl, refl) and (refl, refl) and (refl, refl) and (refl, refl)
     and (refl, refl)
     and (refl, refl) and (refl, refl) and (refl, refl) and refl and (refl, refl) and (refl, refl)

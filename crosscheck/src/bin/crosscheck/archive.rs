@@ -38,7 +38,11 @@ extern "C" {
     ) -> u64;
 }
 
-/// A copy of an input at any alignment, among bytes that are not its own.
+const GUARD: usize = 16;
+const BEFORE: u8 = 0xA5;
+const BEHIND: u8 = 0x5A;
+
+/// A copy of an input at any alignment, between guard zones.
 #[derive(Default)]
 struct InputCopy {
     bytes: Vec<u8>,
@@ -48,19 +52,25 @@ struct InputCopy {
 
 impl InputCopy {
     fn hold(&mut self, input: &[u8]) {
-        self.from = 16 + (self.from + 1) % 8;
+        self.from = GUARD + (self.from + 1) % 8;
         self.len = input.len();
         self.bytes.clear();
-        self.bytes.resize(self.from, 0xA5);
+        self.bytes.resize(self.from, BEFORE);
         self.bytes.extend_from_slice(input);
-        self.bytes.resize(self.bytes.len() + 16, 0x5A);
+        self.bytes.resize(self.bytes.len() + GUARD, BEHIND);
     }
 
-    fn input(&self) -> &[u8] {
-        &self.bytes[self.from..self.from + self.len]
+    /// Whether the copy and its guard zones are as they were.
+    fn is_intact(&self, input: &[u8]) -> bool {
+        let (before, rest) = self.bytes.split_at(self.from);
+        let (copy, behind) = rest.split_at(self.len);
+        copy == input
+            && before.iter().all(|byte| *byte == BEFORE)
+            && behind.iter().all(|byte| *byte == BEHIND)
     }
 
-    fn pointer(&mut self) -> *const u8 {
+    /// A mutable pointer, so that a wrong write through it is a difference.
+    fn pointer(&mut self) -> *mut u8 {
         self.bytes[self.from..].as_mut_ptr()
     }
 }
@@ -76,6 +86,7 @@ pub struct Answered {
 pub struct Archive {
     first: InputCopy,
     second: InputCopy,
+    calls: u64,
 }
 
 impl Archive {
@@ -89,16 +100,20 @@ impl Archive {
         self.second.hold(second);
         call.prepare(lent);
         let answer = self.call(call, lent);
-        let inputs_intact = self.first.input() == first && self.second.input() == second;
+        let inputs_intact = self.first.is_intact(first) && self.second.is_intact(second);
         Answered { answer, inputs_intact }
     }
 
     fn call(&mut self, call: &Call, lent: &mut Lent) -> u64 {
-        let (a, a_len) = (self.first.pointer(), self.first.len);
-        let (b, b_len) = (self.second.pointer(), self.second.len);
+        self.calls += 1;
+        let null = self.calls.is_multiple_of(2);
+        let (a_len, b_len) = (self.first.len, self.second.len);
+        let (a, b) = (self.first.pointer(), self.second.pointer());
         let (bytes, words) = lent.parts();
         let (bytes_len, words_len) = (bytes.len(), words.len());
-        let (bytes, words) = (bytes.as_mut_ptr(), words.as_mut_ptr());
+        let (a, b) = (or_null(a, a_len, null), or_null(b, b_len, null));
+        let bytes = or_null(bytes.as_mut_ptr(), bytes_len, null);
+        let words = or_null(words.as_mut_ptr(), words_len, null);
         // SAFETY: each pointer is valid for its length, and no two parts overlap.
         unsafe {
             match call {
@@ -112,6 +127,15 @@ impl Archive {
                 Call::List { .. } => unreachable!("the program is run, not called"),
             }
         }
+    }
+}
+
+/// The pointer, or a null one where nothing lies behind it and `null` asks for it.
+fn or_null<T>(pointer: *mut T, len: usize, null: bool) -> *mut T {
+    if null && len == 0 {
+        std::ptr::null_mut()
+    } else {
+        pointer
     }
 }
 

@@ -24,13 +24,16 @@ fn word_pattern() -> &'static [u32] {
 pub struct Lent {
     bytes: Vec<u8>,
     words: Vec<u32>,
+    /// Where the lent bytes begin, at any alignment.
+    from: usize,
 }
 
 impl Lent {
     /// Guard zones around `bytes` bytes and `words` words, all prefilled.
     pub fn prepare(&mut self, bytes: usize, words: usize) {
+        self.from = GUARD + bytes % 8;
         self.bytes.clear();
-        self.bytes.extend_from_slice(&byte_pattern()[..bytes + 2 * GUARD]);
+        self.bytes.extend_from_slice(&byte_pattern()[..self.from + bytes + GUARD]);
         self.words.clear();
         self.words.extend_from_slice(&word_pattern()[..words + 2 * GUARD]);
     }
@@ -47,7 +50,7 @@ impl Lent {
 
     pub fn parts(&mut self) -> (&mut [u8], &mut [u32]) {
         let (bytes, words) = (self.bytes.len() - GUARD, self.words.len() - GUARD);
-        (&mut self.bytes[GUARD..bytes], &mut self.words[GUARD..words])
+        (&mut self.bytes[self.from..bytes], &mut self.words[GUARD..words])
     }
 
     /// Holds a program's text in place of lent bytes.
@@ -58,16 +61,16 @@ impl Lent {
 
     /// Where and how two memories first differ, places counted from the lent slice.
     pub fn first_difference(&self, other: &Lent) -> Option<String> {
-        let at = |place: usize| place as isize - GUARD as isize;
+        let at = |place: usize, from: usize| place as isize - from as isize;
         let byte = self.bytes.iter().zip(&other.bytes).position(|(a, b)| a != b);
         let word = self.words.iter().zip(&other.words).position(|(a, b)| a != b);
         if let Some(place) = byte {
             let (a, b) = (self.bytes[place], other.bytes[place]);
-            return Some(format!("byte {}: {a:02X} and {b:02X}", at(place)));
+            return Some(format!("byte {}: {a:02X} and {b:02X}", at(place, self.from)));
         }
         if let Some(place) = word {
             let (a, b) = (self.words[place], other.words[place]);
-            return Some(format!("word {}: {a:08X} and {b:08X}", at(place)));
+            return Some(format!("word {}: {a:08X} and {b:08X}", at(place, GUARD)));
         }
         let lengths = (self.bytes.len(), other.bytes.len());
         (lengths.0 != lengths.1).then(|| format!("lengths {} and {}", lengths.0, lengths.1))

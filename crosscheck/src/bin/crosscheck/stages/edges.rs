@@ -66,7 +66,7 @@ fn key_counts(comparison: &mut Comparison) {
     }
 }
 
-/// A small set in an image of very many slots.
+/// A small set in an image of very many slots, whole, cut, and with a fault far from its start.
 fn many_slots(comparison: &mut Comparison, random: &mut Random, slots: usize) {
     let pairs = with_values(random, &n_and_na());
     let mut image = place(random, &pairs, vec![0x61, 0x6E], 0);
@@ -77,6 +77,14 @@ fn many_slots(comparison: &mut Comparison, random: &mut Random, slots: usize) {
     search(comparison, &bytes, &query_of(&[0x6E, 0x61]), 130);
     comparison.call(Call::Complete { image: &bytes, prefix: &[], room: 100 });
     comparison.call(Call::Check { image: &bytes[..bytes.len() - 1] });
+    for slot in [slots / 2, slots - 1] {
+        let mut spoilt = image.clone();
+        spoilt.nodes[slot].base = 7;
+        comparison.image(&spoilt.to_bytes());
+        let mut spoilt = image.clone();
+        spoilt.lists.offsets[slot] += 1;
+        comparison.image(&spoilt.to_bytes());
+    }
 }
 
 /// E at and past N-2, with a length that agrees.

@@ -41,8 +41,11 @@ fn full_table(comparison: &mut Comparison) {
     more.extend((0..72).map(|second| vec![0, 0x100 + second, 0x100]));
     more.sort();
     for keys in [keys, more] {
-        let call = Call::Build { keys: &to_bytes(&keys), work: 140_000, out: 1_200_000 };
-        comparison.call(call);
+        let list = to_bytes(&keys);
+        comparison.call(Call::Build { keys: &list, work: 140_000, out: 1_200_000 });
+        if let Ok(image) = image_of(Rules::DOCUMENT, &list, 140_000) {
+            comparison.image(&image.to_bytes());
+        }
     }
 }
 
