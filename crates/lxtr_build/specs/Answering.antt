@@ -1,17 +1,16 @@
--- Answers of the builder's functions, beside the outcome that they stand for.
+-- Answers of the builder's functions, beside the outcome that they stand for: from the refusals of the list to the image.
 use Prim.Native.Nat.{ℕ, zero, suc, _≤_, _<_}
-use native.Mathlib.Nat.{zero-add}
 use native.Mathlib.Omega.{arith}
 use mathlib.Core.Path.{_≡_, refl, sym, ap, _∙_}
-use mathlib.Core.List.{List, _++_}
+use mathlib.Core.List.{List}
 use mathlib.Core.Option.{some}
 use mathlib.Core.Bool.{Bool, true, false, not}
-use lib.ListN.{length, take, drop, replicate}
+use lib.ListN.{length, take, replicate}
 use borrow.Author.Tests.{lt-ltb, le-ltb}
 use Rattle.lxtr_spec.specs.Labels.{maxListed, Pair}
 use Rattle.lxtr_spec.specs.KeyLists.{listRefusal, pairsOf}
 use Rattle.lxtr_spec.specs.CodeMaps.{mapOf}
-use Rattle.lxtr_spec.specs.Builds.{imageIn, slotsUsed, slotsIn, placedIn, Outcome, refuses, withRoom, fromPlaced, fromLabels, fromKeys, outcomeOf, answered, workAfter, buildOf}
+use Rattle.lxtr_spec.specs.Builds.{imageIn, slotsUsed, slotsIn, placedIn, Outcome, withRoom, fromPlaced, fromLabels, fromKeys, outcomeOf, answered, workAfter, buildOf}
 use Rattle.lxtr_spec.specs.declared.Built.{Built}
 use Rattle.lxtr_laws.specs.Tests.{not-is-true, not-is-false}
 use Rattle.lxtr_laws.specs.Overlays.{over}
@@ -21,11 +20,8 @@ use Rattle.lxtr_build_laws.specs.CodeTables.{picked, CodeTables, Mapped}
 use Rattle.lxtr_build_laws.specs.Tables.{picked-length}
 use Rattle.lxtr_build_laws.specs.Work.{placedAs}
 use Rattle.lxtr_build_laws.specs.Counts.{children-count}
-use Rattle.lxtr_build.specs.Writing.{ImageReady}
-
--- The answer, and the output before and after it, are those of an outcome. What the work holds is not said.
-pub record Answers (o : Outcome) (out : List ℕ) (r : Built) (out′ : List ℕ) : Type 0 where
-  pub any-work : (work : List ℕ) → record { answer = r; output = out′; work = work } ≡ answered o out work
+use Rattle.lxtr_write.specs.Writing.{ImageReady}
+use Rattle.lxtr_write.specs.Answers.{Answers, answers-refusal}
 
 -- what comes of these keys with this work and this output: from refusal 20 on, and from refusal 22 on
 abbrev pub labelsOutcome : List ℕ → List ℕ → List ℕ → Outcome
@@ -34,27 +30,6 @@ labelsOutcome keys work out = fromLabels (length work) (length out) (pairsOf key
 abbrev pub placedOutcome : List ℕ → List ℕ → List ℕ → Outcome
 placedOutcome keys work out =
     fromPlaced (slotsIn (length work)) (length out) (mapOf (pairsOf keys)) (placedIn (length work) (pairsOf keys) (mapOf (pairsOf keys)))
-
-answers-refusal : (k : ℕ) (out : List ℕ) → Answers (refuses k) out (record { refusal = k; length = 0 }) out
-unfolding answered
-answers-refusal k out = record { any-work = λ work. refl }
-
--- 23, or the image at the output's front
-module _ (image out : List ℕ) where
-  pub image-short : length out < length image → Answers (withRoom (length out) image) out (record { refusal = 23; length = 0 }) out
-  unfolding withRoom
-  image-short h = rw (lt-ltb (length out) (length image) h, withRoom) (answers-refusal 23 out)
-
-  pub image-fits : (out′ : List ℕ) (size : ℕ) → length image ≡ size → size ≤ length out → out′ ≡ over out 0 image → Answers (withRoom (length out) image) out (record { refusal = 0; length = size }) out′
-  unfolding withRoom answered over
-  image-fits out′ size is h q =
-      let front : out′ ≡ image ++ drop (length image) out = q ∙ ap (λ (k : ℕ). image ++ drop k out) (zero-add (length image)) in
-      rw (le-ltb (length out) (length image) (omega arith), withRoom, front, ← is) (record { any-work = λ work. refl })
-
--- the image of all used slots
-pub image-answered : (w m : List ℕ) (S N R : ℕ) (out : List ℕ) (r : Built) (out′ : List ℕ) → S ≡ slotsIn (length w) → N ≡ slotsUsed w S
-    → Answers (withRoom R (imageIn w N m)) out r out′ → Answers (withRoom R (imageIn w (slotsUsed w (slotsIn (length w))) m)) out r out′
-image-answered w m S N R out r out′ is used a = rw (← is, ← used) a
 
 -- the tables have a place for each label of the map
 map-size : {ps : List Pair} {labels codes order : List ℕ} → CodeTables ps labels codes order → length order ≡ length (mapOf ps)

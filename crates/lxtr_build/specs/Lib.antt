@@ -1,7 +1,3 @@
--- What the code of the builder computes, turn by turn. Of these a reader of its contracts, all of private functions, meets the records
--- that open Counting, Lists and Writing, and Answers.
-pub mod Counting
-pub mod Lists
-pub mod Writing
+-- What the code of the builder computes, step by step: cleared work, and the outcome that each answer stands for.
 pub mod Clearing
 pub mod Answering

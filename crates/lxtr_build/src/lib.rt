@@ -1,7 +1,4 @@
 // Builds LXTR images from key lists. Any caller may use `build`; the other functions are its parts.
-mod counting; // how many slots the image has, and how many children
-mod lists; // the offsets and the children lists
-mod writing; // the whole image
 
 ghost use mathlib.Core.Path.{_≡_};
 ghost use lib.ListN.{length, replicate};
@@ -10,14 +7,15 @@ ghost use Rattle.lxtr_spec.specs.Builds.{fromKeys, buildOf};
 ghost use Rattle.lxtr_build_laws.specs.KeyLists.{KeysPassed};
 ghost use Rattle.lxtr_build_laws.specs.CodeTables.{CodeTables};
 ghost use Rattle.lxtr_build_laws.specs.Work.{Cleared};
-ghost use Rattle.lxtr_build.specs.Answering.{Answers, labelsOutcome, placedOutcome};
-use crate::writing::put_image;
+ghost use Rattle.lxtr_write.specs.Answers.{Answers};
+ghost use Rattle.lxtr_build.specs.Answering.{labelsOutcome, placedOutcome};
 use lxtr_codes::TABLE_SIZE;
 use lxtr_codes::code_map;
 use lxtr_keys::list_refusal;
 use lxtr_place::place_all;
 use lxtr_spec::Built;
 use lxtr_spec::MAX_LISTED;
+use lxtr_write::put_image;
 
 // Sets every word to 0.
 fn clear(work: &mut [u32])
