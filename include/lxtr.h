@@ -2,8 +2,8 @@
  * lxtr.h: LXTR images, version 3, for programs in C (C99 or later) and C++.
  *
  * An LXTR image is one block of bytes that holds a dictionary: a set of keys, each with a value number. It is a double-array
- * trie, made by lxtr_build and read in place by the other functions. Link with liblxtr_c.a, which is for x86-64 Linux; it needs only
- * memcpy and memset.
+ * trie, made by lxtr_build and read in place by the other functions. Link with liblxtr_c.a, which is for x86-64 Linux and needs
+ * only memcpy and memset.
  *
  * WORDS USED HERE
  *
@@ -62,7 +62,7 @@
 extern "C" {
 #endif
 
-/* The most labels that a key has, keys that a list has (32,767 is the most that can fit an image), and labels that an image lists. */
+/* The most labels of a key, keys of a list (32,767 is the most that can fit an image), and labels that an image lists. */
 #define LXTR_MAX_LABELS 64
 #define LXTR_MAX_KEYS 32768
 #define LXTR_MAX_LISTED_LABELS 4095
@@ -189,8 +189,8 @@ uint64_t lxtr_complete(const uint8_t *image, size_t image_length, const uint8_t 
                        uint8_t *room, size_t room_length);
 
 /*
- * Builds the image of a key list. The number is the image's length in bytes. Value i is that of the i-th key, from 0 on. The largest
- * lists take seconds.
+ * Builds the image of a key list. The number is the image's length in bytes. Value i is that of the i-th key, from 0 on. The
+ * largest lists take seconds.
  *
  * A key list is a version byte 1, the number of keys in four bytes, and for each key a byte with its number of labels and the
  * labels in four bytes each. Numbers have their highest byte first. Keys ascend label by label by the labels' numbers (not by
