@@ -7,6 +7,11 @@ use native.Mathlib.Omega.{arith}
 use mir.Val.{boolByte}
 use Rattle.lxtr_spec.specs.Ranges.{countBelow}
 
+-- a test's outcome as the number that the code makes of it
+pub one-at-most : (r : Bool) → boolByte r ≤ 1
+one-at-most true = omega arith
+one-at-most false = omega arith
+
 pub record CountSoFar (f : ℕ → Bool) (i m n : ℕ) : Type 0 where
   pub to : i ≤ m
   pub count : n ≡ countBelow i f
@@ -19,10 +24,6 @@ module _ (f : ℕ → Bool) (m : ℕ) where
 
   -- r is the outcome of the test at i
   module _ (i n : ℕ) (s : CountSoFar f i m n) where
-    one-at-most : (r : Bool) → boolByte r ≤ 1
-    one-at-most true = omega arith
-    one-at-most false = omega arith
-
     -- the code adds it as a number
     pub count-next : (r : Bool) → i < m → r ≡ f i → CountSoFar f (i + 1) m (n + boolByte r)
     unfolding countBelow

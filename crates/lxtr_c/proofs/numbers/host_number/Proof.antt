@@ -1,7 +1,8 @@
 -- Each mark adds at most what it stands for, so the sum fits; it is the definition's, whichever marks are set.
 use borrow.Author.Needs.{needs}
 use native.Mathlib.Omega.{arith}
-use Rattle.lxtr_c.specs.Numbers.{one-at-most, number-added}
+use Rattle.lxtr_laws.specs.Tallies.{one-at-most}
+use Rattle.lxtr_c.specs.Numbers.{number-added}
 use Rattle.lxtr_c.proofs.numbers.host_number.Statement.{statement}
 use Rattle.lxtr_c.proofs.numbers.host_number.Tie as tie
 
