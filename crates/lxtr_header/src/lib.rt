@@ -1,10 +1,11 @@
 // The refusals of an image's header, 1 to 8, over any bytes: each fault as a test, then the first that holds. Any caller may use
 // `header_refusal`.
 ghost use mathlib.Core.Path.{_≡_};
+ghost use mathlib.Core.List.{[], _∷_};
 ghost use Prim.Native.Nat.{_≤_};
 ghost use lib.ListN.{length};
 ghost use Rattle.lxtr_spec.specs.Image.{headerLength};
-ghost use Rattle.lxtr_spec.specs.Refusals.{magicDiffers, versionWrong, reservedSet, sizesWrong, lengthWrong, mapWrong, offsetEndsWrong, headerRefusal};
+ghost use Rattle.lxtr_spec.specs.Refusals.{magicDiffers, versionWrong, reservedSet, sizesWrong, lengthWrong, mapWrong, offsetEndsWrong, refuseIf, headerRefusal};
 ghost use Rattle.lxtr_laws.specs.Passed.{Sized, Whole};
 use lxtr_image::code_map::label_count;
 use lxtr_image::code_map::map_version;
@@ -14,20 +15,26 @@ use lxtr_image::sections::child_count;
 use lxtr_image::sections::map_at;
 use lxtr_image::sections::map_length;
 use lxtr_image::sections::slot_count;
+use lxtr_image::words::le32_at;
+use lxtr_image::words::word;
 use lxtr_spec::MAX_LISTED;
 use lxtr_spec::MAX_SLOTS;
 use lxtr_spec::MIN_SLOTS;
+
+// Whether four bytes differ from `LXTR`. They are compared as one number.
+fn four_differ(a: u8, b: u8, c: u8, d: u8) -> bool
+    ensures { λ r. ⌜ r ≡ magicDiffers (a ∷ b ∷ c ∷ d ∷ []) ⌝ }
+{
+    let magic = b"LXTR";
+    word(a, b, c, d) != word(magic[0], magic[1], magic[2], magic[3])
+}
 
 // 2: first four bytes differ from `LXTR`.
 fn magic_differs(image: &[u8]) -> bool
     requires { ⌜ headerLength ≤ length (now image) ⌝ }
     ensures { λ r. ⌜ r ≡ magicDiffers (now (image .entry)) ⌝ }
 {
-    let magic = b"LXTR";
-    (image[0] != magic[0])
-        | (image[1] != magic[1])
-        | (image[2] != magic[2])
-        | (image[3] != magic[3])
+    four_differ(image[0], image[1], image[2], image[3])
 }
 
 // 3: version is not 3.
@@ -38,13 +45,13 @@ fn version_wrong(image: &[u8]) -> bool
     image[4] != 3
 }
 
-// 4: a reserved byte is not 0.
+// 4: a reserved byte is not 0. The bytes are read as numbers of 32 bits, of which the first begins with the version.
 fn reserved_set(image: &[u8]) -> bool
     requires { ⌜ headerLength ≤ length (now image) ⌝ }
     ensures { λ r. ⌜ r ≡ reservedSet (now (image .entry)) ⌝ }
 {
-    let after_version = (image[5] != 0) | (image[6] != 0) | (image[7] != 0);
-    let at_end = (image[20] != 0) | (image[21] != 0) | (image[22] != 0) | (image[23] != 0);
+    let after_version = le32_at(image, 4) != word(image[4], 0, 0, 0);
+    let at_end = le32_at(image, 20) != 0;
     after_version | at_end
 }
 
@@ -90,6 +97,23 @@ fn offset_ends_wrong(image: &[u8]) -> bool
     (offset_at(image, 0) != 0) | (offset_at(image, slot_count(image)) != child_count(image))
 }
 
+// The first of refusals 6 to 8 that holds, or 0, after 1 to 5.
+fn parts_refusal(image: &[u8]) -> u8
+    requires { ⌜ Sized (now image) ⌝ }
+    ensures { λ r. ⌜ r ≡ refuseIf (lengthWrong (now (image .entry))) 6 (refuseIf (mapWrong (now (image .entry))) 7 (refuseIf (offsetEndsWrong (now (image .entry))) 8 0)) ⌝ }
+{
+    if length_wrong(image) {
+        return 6;
+    }
+    if map_wrong(image) {
+        return 7;
+    }
+    if offset_ends_wrong(image) {
+        return 8;
+    }
+    0
+}
+
 // The first of refusals 1 to 8 that holds, or 0, for any bytes.
 pub fn header_refusal(image: &[u8]) -> u8
     ensures { λ r. ⌜ r ≡ headerRefusal (now (image .entry)) ⌝ }
@@ -109,14 +133,5 @@ pub fn header_refusal(image: &[u8]) -> u8
     if sizes_wrong(image) {
         return 5;
     }
-    if length_wrong(image) {
-        return 6;
-    }
-    if map_wrong(image) {
-        return 7;
-    }
-    if offset_ends_wrong(image) {
-        return 8;
-    }
-    0
+    parts_refusal(image)
 }

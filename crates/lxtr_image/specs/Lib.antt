@@ -1,2 +1,4 @@
 -- What the code computes, turn by turn.
+pub mod Swapping
 pub mod Codes
+pub mod Blocks

@@ -1,12 +1,20 @@
 // The code map: the labels that it lists, and the code of a label.
 ghost use mathlib.Core.Path.{_≡_};
-ghost use Prim.Native.Nat.{_<_, _≤_};
-ghost use Rattle.lxtr_spec.specs.Image.{mapLength, mapVersion, labelCount, labelAt, codeOf};
+ghost use Prim.Native.Nat.{_+_, _-_, _<_, _≤_};
+ghost use Rattle.lxtr_spec.specs.Image.{mapLength, mapVersion, labelCount, labelAt, codeFrom, codeOf};
 ghost use Rattle.lxtr_spec.specs.Answers.{found};
 ghost use Rattle.lxtr_laws.specs.Passed.{Whole, Passed};
+ghost use Rattle.lxtr_image.specs.Blocks.{blockSize, weight, blockSum};
 use crate::sections::map_at;
+use crate::sections::map_length;
 use crate::words::be32_at;
 use lxtr_spec::Found;
+
+// How many places of the map are compared at a time.
+const BLOCK_SIZE: u32 = 64;
+
+// What a match adds to the sum of a block, beside its place: more than all places of a block together.
+const MATCH: u32 = 0x1_0000;
 
 pub fn map_version(image: &[u8]) -> u8
     requires { ⌜ Whole (now image) ⌝ }
@@ -26,27 +34,82 @@ pub fn label_count(image: &[u8]) -> u32
     be32_at(image, map_at(image) + 1)
 }
 
-// The label at place i, whose code is i + 1.
+// The same in an image that passed refusals 1 to 8, by the length of its map.
+fn listed_count(image: &[u8]) -> u32
+    requires { ⌜ Passed (now image) ⌝ }
+    ensures { λ r. ⌜ r ≡ labelCount (now (image .entry)) ⌝ }
+{
+    (map_length(image) - 5) / 4
+}
+
+// The label at place i, whose code is i + 1. The map ends the image.
 pub fn label_at(image: &[u8], i: u32) -> u32
     requires { ⌜ Passed (now image) ⌝ }
     requires { ⌜ i < labelCount (now image) ⌝ }
     ensures { λ r. ⌜ r ≡ labelAt (now (image .entry)) i ⌝ }
 {
-    be32_at(image, map_at(image) + 5 + 4 * i as usize)
+    let map = image.len() - map_length(image) as usize;
+    be32_at(image, map + 5 + 4 * i as usize)
 }
 
-// The code of a label: its first place, counted from 1.
+// What place k of a block adds to its sum: nothing where the label is another; otherwise MATCH, and the place counted from 1.
+fn weight(equal: bool, k: u32) -> u32
+    requires { ⌜ k < blockSize ⌝ }
+    ensures { λ r. ⌜ r ≡ weight equal k ⌝ }
+{
+    if equal { MATCH + 1 + k } else { 0 }
+}
+
+// The sum over the block of places from i on. It has no branch, so that the compiler compares several places at a time.
+fn block_sum(image: &[u8], label: u32, i: u32) -> u32
+    requires { ⌜ Passed (now image) ⌝ }
+    requires { ⌜ i + blockSize ≤ labelCount (now image) ⌝ }
+    ensures { λ r. ⌜ r ≡ blockSum (now (image .entry)) label i blockSize ⌝ }
+{
+    let mut sum: u32 = 0;
+    let mut k: u32 = 0;
+    while k < BLOCK_SIZE {
+        sum += weight(label_at(image, i + k) == label, k);
+        k += 1;
+    }
+    sum
+}
+
+// The code of a label, looked for place by place from i on.
+fn code_from(image: &[u8], label: u32, from: u32) -> Found
+    requires { ⌜ Passed (now image) ⌝ }
+    requires { ⌜ from ≤ labelCount (now image) ⌝ }
+    ensures { λ r. ⌜ found r ≡ codeFrom (now (image .entry)) label (labelCount (now (image .entry)) - from) from ⌝ }
+{
+    let count = listed_count(image);
+    let mut i = from;
+    while i < count {
+        let code = i + 1;
+        if label_at(image, i) == label {
+            return Found::Is(code);
+        }
+        i = code;
+    }
+    Found::Nothing
+}
+
+// The code of a label: its first place, counted from 1. Whole blocks are searched by their sums. In a block that has the label
+// more than once, and in the rest behind the blocks, it is looked for place by place.
 pub fn code_of(image: &[u8], label: u32) -> Found
     requires { ⌜ Passed (now image) ⌝ }
     ensures { λ r. ⌜ found r ≡ codeOf (now (image .entry)) label ⌝ }
 {
-    let count = label_count(image);
+    let count = listed_count(image);
     let mut i: u32 = 0;
-    while i < count {
-        if label_at(image, i) == label {
-            return Found::Is(i + 1);
+    while i + BLOCK_SIZE <= count {
+        let sum = block_sum(image, label, i);
+        if 2 * MATCH <= sum {
+            break;
         }
-        i += 1;
+        if sum != 0 {
+            return Found::Is(i + sum % MATCH);
+        }
+        i += BLOCK_SIZE;
     }
-    Found::Nothing
+    code_from(image, label, i)
 }

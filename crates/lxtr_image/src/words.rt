@@ -1,15 +1,33 @@
 // Numbers of 32 bits in bytes.
 ghost use mathlib.Core.Path.{_≡_};
-ghost use Prim.Native.Nat.{_+_, _*_, _^_, _≤_};
+ghost use Prim.Native.Nat.{_+_, _*_, _/_, _%_, _^_, _≤_};
 ghost use lib.ListN.{length};
 ghost use Rattle.lxtr_spec.specs.Words.{le32, be32, leBytes, beBytes};
 ghost use Rattle.lxtr_laws.specs.Overlays.{over};
 
 // The number of four bytes, low end first.
-fn word(a: u8, b: u8, c: u8, d: u8) -> u32
+pub fn word(a: u8, b: u8, c: u8, d: u8) -> u32
     ensures { λ r. ⌜ r ≡ a + b * 2 ^ 8 + c * 2 ^ 16 + d * 2 ^ 24 ⌝ }
 {
     a as u32 + b as u32 * 0x100 + c as u32 * 0x1_0000 + d as u32 * 0x100_0000
+}
+
+// The number of the same four bytes in the other order.
+fn swapped(x: u32) -> u32
+    ensures { λ r. ⌜ r ≡ x % 2 ^ 8 * 2 ^ 24 + x / 2 ^ 8 % 2 ^ 8 * 2 ^ 16 + x / 2 ^ 16 % 2 ^ 8 * 2 ^ 8 + x / 2 ^ 24 ⌝ }
+{
+    x % 0x100 * 0x100_0000
+        + x / 0x100 % 0x100 * 0x1_0000
+        + x / 0x1_0000 % 0x100 * 0x100
+        + x / 0x100_0000
+}
+
+// The number of four bytes, high end first. Compiled, `word` is one load and `swapped` one instruction, and two such numbers are
+// compared without swapping.
+fn high_first(a: u8, b: u8, c: u8, d: u8) -> u32
+    ensures { λ r. ⌜ r ≡ a * 2 ^ 24 + b * 2 ^ 16 + c * 2 ^ 8 + d ⌝ }
+{
+    swapped(word(a, b, c, d))
 }
 
 // The little-endian number at a place.
@@ -25,7 +43,7 @@ pub fn be32_at(s: &[u8], at: usize) -> u32
     requires { ⌜ at + 4 ≤ length (now s) ⌝ }
     ensures { λ r. ⌜ r ≡ be32 (now (s .entry)) at ⌝ }
 {
-    word(s[at + 3], s[at + 2], s[at + 1], s[at])
+    high_first(s[at], s[at + 1], s[at + 2], s[at + 3])
 }
 
 // A number as four bytes from a place on, low end first.

@@ -1,19 +1,15 @@
--- The code says what the rule says.
+-- A number is 0, or equal to its lowest byte, exactly where its bytes, or the other three, are 0.
 use borrow.Author.Needs.{needs}
-use Rattle.lxtr_spec.specs.Refusals.{reservedSet}
+use Rattle.lxtr_header.specs.Bytes.{reserved-numbers}
 use Rattle.lxtr_header.proofs.reserved_set.Statement.{statement}
 use Rattle.lxtr_header.proofs.reserved_set.Tie as tie
 
 pub reserved-set-spec : {M : Type 1} → statement M
-unfolding reservedSet
 reserved-set-spec =
     tie.close
     (tie.spec
+    (λ c κs. search needs)
     (λ c. search needs)
-    (λ c. search needs)
-    (λ c. search needs)
-    (λ c. search needs)
-    (λ c. search needs)
-    (λ c. search needs)
-    (λ c. search needs)
-    (λ c. search needs))
+    (λ c κs. search needs)
+    (λ c κs. search needs)
+    (λ c. search reserved-numbers))

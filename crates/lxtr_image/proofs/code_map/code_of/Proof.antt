@@ -1,9 +1,11 @@
--- Invariant: the code of the label is what the search of the places from i on gives. Each turn is one of the laws of `Codes`.
+-- Invariant: the code of the label is what the search of the places from i on gives. A block whose sum is 0 is passed, and one match
+-- is what the sum says; otherwise the search goes on place by place.
 use borrow.Author.Needs.{needs}
 use Prim.Native.Nat.{_≤_, _-_}
 use mathlib.Core.Path.{_≡_}
 use Rattle.lxtr_spec.specs.Image.{labelCount, codeFrom, codeOf}
-use Rattle.lxtr_image.specs.Codes.{code-start, code-hit, code-miss, code-end}
+use Rattle.lxtr_image.specs.Codes.{code-all, code-rest}
+use Rattle.lxtr_image.specs.Blocks.{block-found, block-passed}
 use Rattle.lxtr_image.proofs.code_map.code_of.Statement.{statement}
 use Rattle.lxtr_image.proofs.code_map.code_of.Tie as tie
 
@@ -20,11 +22,14 @@ code-of-spec =
     Inv-loop
     μ-loop
     (λ c κs. search needs)
-    (λ c. (search needs, search needs, search code-start))
+    (λ c. (search needs, search needs, search code-all))
+    (λ c. search needs)
     (λ c κs. search needs)
     (λ c. search needs)
-    (λ c. search code-hit)
+    (λ c. search needs)
+    (λ c. search block-found)
     (λ c. search needs)
     (λ c. search needs)
-    (λ c. (search needs, search needs, search code-miss))
-    (λ c. search code-end))
+    (λ c. (search needs, search needs, search block-passed))
+    (λ c κs. search needs)
+    (λ c. search code-rest))

@@ -1,11 +1,10 @@
--- The map has L labels after its first 5 bytes.
+-- The map ends the image, and has L labels after its first 5 bytes.
 use borrow.Author.Needs.{needs}
-use Rattle.lxtr_spec.specs.Image.{labelAt}
+use Rattle.lxtr_image.specs.Codes.{label-from-end}
 use Rattle.lxtr_image.proofs.code_map.label_at.Statement.{statement}
 use Rattle.lxtr_image.proofs.code_map.label_at.Tie as tie
 
 pub label-at-spec : {M : Type 1} → statement M
-unfolding labelAt
 label-at-spec =
     tie.close
     (tie.spec
@@ -13,5 +12,7 @@ label-at-spec =
     (λ c. search needs)
     (λ c. search needs)
     (λ c. search needs)
+    (λ c. search needs)
+    (λ c. search needs)
     (λ c κs. search needs)
-    (λ c. rw (c .be32-at .ensures, c .before .map-at .ensures)))
+    (λ c. search label-from-end))

@@ -1,0 +1,18 @@
+-- Each return is a chain of faults that are not there, ended by one that is; what the tests so far leave known is what the next one reads.
+use borrow.Author.Needs.{needs}
+use Rattle.lxtr_laws.specs.Refusing.{chain}
+use Rattle.lxtr_laws.specs.Passed.{whole-by}
+use Rattle.lxtr_header.proofs.parts_refusal.Statement.{statement}
+use Rattle.lxtr_header.proofs.parts_refusal.Tie as tie
+
+pub parts-refusal-spec : {M : Type 1} → statement M
+parts-refusal-spec =
+    tie.close
+    (tie.spec
+    (λ c κs. search needs)
+    (λ c. search chain)
+    (λ c κs. search whole-by)
+    (λ c. search chain depth 20)
+    (λ c κs. search whole-by)
+    (λ c. search chain depth 20)
+    (λ c. search chain depth 20))

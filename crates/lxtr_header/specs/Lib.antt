@@ -1,0 +1,2 @@
+-- What the header's tests compute.
+pub mod Bytes

@@ -1,0 +1,29 @@
+-- Four bytes as a number, low end first, and the same number with its bytes in the other order.
+use Prim.Native.Nat.{ℕ, _+_, _*_, _/_, _%_, _^_, _<_}
+use mathlib.Core.Path.{_≡_, ap, _∙_}
+use native.Mathlib.Nat.{add-mul-mod-self-right, add-mul-div-right, mod-eq-of-lt, div-eq-of-lt, zero-add}
+use native.Mathlib.Omega.{arith}
+
+-- the digits of a number in base n, low end first: the lowest, and what is left of the others
+low : (n a q : ℕ) → a < n → (a + q * n) % n ≡ a
+low n a q h = add-mul-mod-self-right a q n ∙ mod-eq-of-lt h
+
+rest : (n a q : ℕ) → a < n → (a + q * n) / n ≡ q
+rest n a q h = add-mul-div-right a q (omega arith) ∙ ap (λ (z : ℕ). z + q) (div-eq-of-lt h) ∙ zero-add q
+
+below-16 : (a b : ℕ) → a < 2 ^ 8 → b < 2 ^ 8 → a + b * 2 ^ 8 < 2 ^ 16
+below-16 a b h k = omega arith
+
+below-24 : (m c : ℕ) → m < 2 ^ 16 → c < 2 ^ 8 → m + c * 2 ^ 16 < 2 ^ 24
+below-24 m c h k = omega arith
+
+-- x is the number of the bytes a to d, and r what swapping makes of it
+pub swapped-bytes : (a b c d x r : ℕ) → a < 2 ^ 8 → b < 2 ^ 8 → c < 2 ^ 8 → d < 2 ^ 8 → x ≡ a + b * 2 ^ 8 + c * 2 ^ 16 + d * 2 ^ 24 → r ≡ x % 2 ^ 8 * 2 ^ 24 + x / 2 ^ 8 % 2 ^ 8 * 2 ^ 16 + x / 2 ^ 16 % 2 ^ 8 * 2 ^ 8 + x / 2 ^ 24 → r ≡ a * 2 ^ 24 + b * 2 ^ 16 + c * 2 ^ 8 + d
+swapped-bytes a b c d x r ha hb hc hd e s =
+    let by-8 : x ≡ a + (b + (c + d * 2 ^ 8) * 2 ^ 8) * 2 ^ 8 = omega (arith, e) in
+    let by-16 : x ≡ (a + b * 2 ^ 8) + (c + d * 2 ^ 8) * 2 ^ 16 = omega (arith, e) in
+    let first = ap (λ (z : ℕ). z % 2 ^ 8) by-8 ∙ low (2 ^ 8) a (b + (c + d * 2 ^ 8) * 2 ^ 8) ha in
+    let second = ap (λ (z : ℕ). z / 2 ^ 8) by-8 ∙ rest (2 ^ 8) a (b + (c + d * 2 ^ 8) * 2 ^ 8) ha in
+    let third = ap (λ (z : ℕ). z / 2 ^ 16) by-16 ∙ rest (2 ^ 16) (a + b * 2 ^ 8) (c + d * 2 ^ 8) (below-16 a b ha hb) in
+    let fourth = ap (λ (z : ℕ). z / 2 ^ 24) e ∙ rest (2 ^ 24) (a + b * 2 ^ 8 + c * 2 ^ 16) d (below-24 (a + b * 2 ^ 8) c (below-16 a b ha hb) hc) in
+    rw (s, first, second, third, fourth, low (2 ^ 8) b (c + d * 2 ^ 8) hb, low (2 ^ 8) c d hc)
