@@ -1,5 +1,5 @@
 # `make run` proves and builds the listing program and lists a sample key list; `make test` is the gate.
-.PHONY: run examples archive host crosscheck test
+.PHONY: run examples archive host crosscheck bench test
 
 # What a proof or a compiler says goes to a log, and is shown only where it fails.
 quietly = @mkdir -p target; $(1) > target/make.log 2>&1 || { cat target/make.log; exit 1; }
@@ -26,6 +26,10 @@ host: archive
 crosscheck: archive
 	$(call quietly,rt check list_pairs)
 	@bash .ci/crosscheck
+
+# Times of the C functions beside the independent implementation, on generated key lists.
+bench: archive
+	@cd bench && cargo run --release --offline --quiet
 
 test:
 	@bash .ci/run

@@ -1,0 +1,112 @@
+//! Contestants: each answers the same calls, in its own way and its own lent memory.
+
+use crate::clock::thread_time;
+use crate::dictionary::Dictionary;
+use std::hint::black_box;
+use std::time::Duration;
+
+/// A pass over fewer calls than all has at least so many, to be a fair sample.
+const SAMPLE: usize = 20;
+/// Calls on which a contestant is compared that takes long for each.
+const FEW: usize = 64;
+
+/// One call: of a dictionary, and with a query where there is one.
+#[derive(Clone, Copy)]
+pub struct Call<'a> {
+    pub of: &'a Dictionary,
+    pub query: &'a [u8],
+}
+
+/// Memory lent to a call.
+#[derive(Clone, Default, PartialEq, Eq)]
+pub struct Lent {
+    pub words: Vec<u32>,
+    pub bytes: Vec<u8>,
+}
+
+/// One way to answer the calls of an operation.
+pub trait Contestant {
+    fn name(&self) -> &'static str;
+    /// On how many of the calls it is compared.
+    fn compared(&self) -> usize;
+    /// The query of the call of that number.
+    fn query(&self, at: usize) -> &[u8];
+    /// Answers that call.
+    fn answer(&mut self, at: usize) -> u64;
+    fn lent(&self) -> &Lent;
+    /// Sets how many calls a pass makes.
+    fn prepare(&mut self, pass: Duration);
+    /// The time of one pass and its number of calls.
+    fn pass(&mut self) -> (Duration, usize);
+}
+
+/// A contestant that answers by a function.
+pub struct By<'a, F> {
+    name: &'static str,
+    calls: Vec<Call<'a>>,
+    lent: Lent,
+    answer: F,
+    compared: usize,
+    /// A pass answers this many calls from the front, this many times.
+    sample: usize,
+    rounds: usize,
+}
+
+impl<'a, F: Fn(&Call, &mut Lent) -> u64> By<'a, F> {
+    pub fn new(name: &'static str, calls: &[Call<'a>], lent: &Lent, answer: F) -> By<'a, F> {
+        let calls = calls.to_vec();
+        let (compared, sample) = (calls.len(), calls.len());
+        By { name, calls, lent: lent.clone(), answer, compared, sample, rounds: 1 }
+    }
+
+    /// The same, compared on a few calls only.
+    pub fn slow(mut self) -> By<'a, F> {
+        self.compared = self.compared.min(FEW);
+        self
+    }
+
+    fn time(&mut self, sample: usize, rounds: usize) -> Duration {
+        let start = thread_time();
+        for _ in 0..rounds {
+            for call in &self.calls[..sample] {
+                black_box((self.answer)(black_box(call), &mut self.lent));
+            }
+        }
+        thread_time() - start
+    }
+}
+
+impl<F: Fn(&Call, &mut Lent) -> u64> Contestant for By<'_, F> {
+    fn name(&self) -> &'static str {
+        self.name
+    }
+
+    fn compared(&self) -> usize {
+        self.compared
+    }
+
+    fn query(&self, at: usize) -> &[u8] {
+        self.calls[at].query
+    }
+
+    fn answer(&mut self, at: usize) -> u64 {
+        (self.answer)(&self.calls[at], &mut self.lent)
+    }
+
+    fn lent(&self) -> &Lent {
+        &self.lent
+    }
+
+    fn prepare(&mut self, pass: Duration) {
+        let all = self.calls.len();
+        let first = all.min(SAMPLE);
+        let one = self.time(first, 1).as_secs_f64() / first as f64;
+        let calls = (pass.as_secs_f64() / one) as usize;
+        self.sample = calls.max(SAMPLE).min(all);
+        self.rounds = (calls / self.sample).max(1);
+    }
+
+    fn pass(&mut self) -> (Duration, usize) {
+        (self.time(self.sample, self.rounds), self.sample * self.rounds)
+    }
+}

@@ -1,0 +1,72 @@
+//! Compares the answers of contestants, and times them by turns.
+
+use crate::contestant::Contestant;
+use crosscheck::common::labels_in;
+use std::time::{Duration, Instant};
+
+/// How much measuring is done.
+#[derive(Clone, Copy)]
+pub struct Effort {
+    /// Sweeps, of which the least time counts.
+    pub sweeps: usize,
+    /// About how long one pass takes.
+    pub pass: Duration,
+    /// After this much of an operation no sweep begins, once there were two.
+    pub operation: Duration,
+}
+
+impl Effort {
+    pub const FULL: Effort =
+        Effort { sweeps: 15, pass: Duration::from_millis(5), operation: Duration::from_secs(4) };
+    pub const QUICK: Effort =
+        Effort { sweeps: 2, pass: Duration::from_millis(1), operation: Duration::from_millis(100) };
+}
+
+pub type Contestants<'a> = Vec<Box<dyn Contestant + 'a>>;
+
+/// Compares all contestants with the first one, in each answer and all lent
+/// memory. Gives how many comparisons there were, or what differs.
+pub fn compare(contestants: &mut Contestants) -> Result<usize, String> {
+    let (first, others) = contestants.split_first_mut().expect("there is a contestant");
+    let mut compared = 0;
+    for at in 0..first.compared() {
+        let expected = first.answer(at);
+        for other in others.iter_mut().filter(|other| at < other.compared()) {
+            let answer = other.answer(at);
+            if answer != expected || other.lent() != first.lent() {
+                return Err(format!(
+                    "call {at}, query {:?}: {} answers {expected:#x}, {} {answer:#x}; lent memory {}",
+                    text(first.query(at)),
+                    first.name(),
+                    other.name(),
+                    if other.lent() == first.lent() { "is the same" } else { "differs" }
+                ));
+            }
+            compared += 1;
+        }
+    }
+    Ok(compared)
+}
+
+fn text(query: &[u8]) -> String {
+    labels_in(query).into_iter().filter_map(char::from_u32).collect()
+}
+
+/// The least time of a call in seconds, for each contestant. They take turns, and
+/// a pass that is not timed goes before each timed one.
+pub fn times(contestants: &mut Contestants, effort: Effort) -> Vec<f64> {
+    contestants.iter_mut().for_each(|contestant| contestant.prepare(effort.pass));
+    let mut least = vec![f64::INFINITY; contestants.len()];
+    let start = Instant::now();
+    for sweep in 0..effort.sweeps {
+        if sweep >= 2 && start.elapsed() > effort.operation {
+            break;
+        }
+        for (contestant, least) in contestants.iter_mut().zip(&mut least) {
+            contestant.pass();
+            let (time, calls) = contestant.pass();
+            *least = least.min(time.as_secs_f64() / calls as f64);
+        }
+    }
+    least
+}

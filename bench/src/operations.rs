@@ -1,0 +1,197 @@
+//! The operations that are measured, and the contestants of each: the product's
+//! function, the Rust function from the same bytes to the same answer, and that
+//! function over an image parsed before.
+
+use crate::calls;
+use crate::contestant::{By, Call, Lent};
+use crate::dictionary::{Dictionary, IMAGE_BYTES, WORK_WORDS};
+use crate::measure::Contestants;
+use crate::workload::Workload;
+use crosscheck::answers::{self, PLACE_WORDS};
+use crosscheck::rules::Rules;
+
+const RULES: Rules = Rules::DOCUMENT;
+const PRODUCT: &str = "product";
+const RUST: &str = "Rust";
+const PARSED: &str = "Rust, image parsed before";
+
+#[derive(Clone, Copy)]
+pub enum Operation {
+    Check,
+    ExactPresent,
+    ExactAbsent,
+    Prefixes,
+    Longest,
+    Probe,
+    CompleteAll,
+    CompleteTwo,
+    Build,
+}
+
+impl Operation {
+    pub const ALL: [Operation; 9] = [
+        Operation::Check,
+        Operation::ExactPresent,
+        Operation::ExactAbsent,
+        Operation::Prefixes,
+        Operation::Longest,
+        Operation::Probe,
+        Operation::CompleteAll,
+        Operation::CompleteTwo,
+        Operation::Build,
+    ];
+
+    /// The operation, and what a call is.
+    pub fn title(self) -> &'static str {
+        match self {
+            Operation::Check => "check: a call checks the image",
+            Operation::ExactPresent => "exact, present: a call looks up a key of the list",
+            Operation::ExactAbsent => "exact, absent: a call looks up a reading that is no key",
+            Operation::Prefixes => "prefixes: a call finds all keys at a position of a text",
+            Operation::Longest => "longest: a call finds the longest key at a position of a text",
+            Operation::Probe => "probe: a call looks up a front part of a key",
+            Operation::CompleteAll => "complete, all: a call checks the image and lists all keys",
+            Operation::CompleteTwo => {
+                "complete, two labels: a call checks the image and lists the keys of a prefix"
+            }
+            Operation::Build => "build: a call builds the image",
+        }
+    }
+
+    /// What is counted for the throughput, and how much of it a call handles.
+    pub fn amount(self, on: &Workload) -> (&'static str, f64) {
+        let mean = |size: fn(&Dictionary) -> usize| {
+            on.dictionaries.iter().map(size).sum::<usize>() as f64 / on.dictionaries.len() as f64
+        };
+        match self {
+            Operation::Check => ("B", mean(|of| of.image.len())),
+            Operation::CompleteAll | Operation::Build => (" keys", mean(|of| of.keys.len())),
+            _ => (" queries", 1.0),
+        }
+    }
+
+    /// The contestants in the order of the table's columns.
+    pub fn contestants(self, on: &Workload) -> Contestants<'_> {
+        match self {
+            Operation::Check => check(on),
+            Operation::ExactPresent => exact(&searches(on, slices(&on.present))),
+            Operation::ExactAbsent => exact(&searches(on, slices(&on.absent))),
+            Operation::Prefixes => prefixes(on),
+            Operation::Longest => longest(on),
+            Operation::Probe => probe(on),
+            Operation::CompleteAll => complete(on, vec![&[]; on.dictionaries.len()]),
+            Operation::CompleteTwo => complete(on, slices(&on.prefixes)),
+            Operation::Build => build(on),
+        }
+    }
+}
+
+fn check(on: &Workload) -> Contestants<'_> {
+    three(
+        &in_turn(on, vec![&[]; on.dictionaries.len()]),
+        &Lent::default(),
+        |call, _| calls::check(&call.of.image),
+        |call, _| answers::check(RULES, &call.of.image),
+        |call, _| call.of.parsed.check(),
+    )
+}
+
+fn exact<'a>(queries: &[Call<'a>]) -> Contestants<'a> {
+    three(
+        queries,
+        &Lent::default(),
+        |call, _| calls::exact(&call.of.image, call.query),
+        |call, _| answers::exact(RULES, &call.of.image, call.query),
+        |call, _| call.of.parsed.exact(call.query),
+    )
+}
+
+fn prefixes(on: &Workload) -> Contestants<'_> {
+    three(
+        &searches(on, on.positions()),
+        &Lent { words: vec![0; PLACE_WORDS], bytes: Vec::new() },
+        |call, lent| calls::prefixes(&call.of.image, call.query, &mut lent.words),
+        |call, lent| answers::prefixes(RULES, &call.of.image, call.query, &mut lent.words),
+        |call, lent| call.of.parsed.prefixes(call.query, &mut lent.words),
+    )
+}
+
+fn longest(on: &Workload) -> Contestants<'_> {
+    three(
+        &searches(on, on.positions()),
+        &Lent::default(),
+        |call, _| calls::longest(&call.of.image, call.query),
+        |call, _| answers::longest(RULES, &call.of.image, call.query),
+        |call, _| call.of.parsed.longest(call.query),
+    )
+}
+
+fn probe(on: &Workload) -> Contestants<'_> {
+    three(
+        &searches(on, slices(&on.typed)),
+        &Lent::default(),
+        |call, _| calls::probe(&call.of.image, call.query),
+        |call, _| answers::probe(RULES, &call.of.image, call.query),
+        |call, _| call.of.parsed.probe(call.query),
+    )
+}
+
+fn complete<'a>(on: &'a Workload, prefixes: Vec<&'a [u8]>) -> Contestants<'a> {
+    let room = on.dictionaries.iter().map(Dictionary::room).max().unwrap_or_default();
+    three(
+        &in_turn(on, prefixes),
+        &Lent { words: Vec::new(), bytes: vec![0; room] },
+        |call, lent| calls::complete(&call.of.image, call.query, &mut lent.bytes),
+        |call, lent| answers::complete(RULES, &call.of.image, call.query, &mut lent.bytes),
+        |call, lent| call.of.parsed.complete(call.query, &mut lent.bytes),
+    )
+}
+
+/// Without the third contestant: there is no image before.
+fn build(on: &Workload) -> Contestants<'_> {
+    two(
+        &in_turn(on, vec![&[]; on.dictionaries.len()]),
+        &Lent { words: vec![0; WORK_WORDS], bytes: vec![0; IMAGE_BYTES] },
+        |call, lent| calls::build(&call.of.list, &mut lent.words, &mut lent.bytes),
+        |call, lent| answers::build(RULES, &call.of.list, &mut lent.words, &mut lent.bytes),
+    )
+}
+
+fn two<'a>(
+    calls: &[Call<'a>],
+    lent: &Lent,
+    product: impl Fn(&Call, &mut Lent) -> u64 + 'a,
+    rust: impl Fn(&Call, &mut Lent) -> u64 + 'a,
+) -> Contestants<'a> {
+    vec![
+        Box::new(By::new(PRODUCT, calls, lent, product)),
+        Box::new(By::new(RUST, calls, lent, rust).slow()),
+    ]
+}
+
+fn three<'a>(
+    calls: &[Call<'a>],
+    lent: &Lent,
+    product: impl Fn(&Call, &mut Lent) -> u64 + 'a,
+    rust: impl Fn(&Call, &mut Lent) -> u64 + 'a,
+    parsed: impl Fn(&Call, &mut Lent) -> u64 + 'a,
+) -> Contestants<'a> {
+    let mut contestants = two(calls, lent, product, rust);
+    contestants.push(Box::new(By::new(PARSED, calls, lent, parsed)));
+    contestants
+}
+
+/// A call of the first dictionary for each query.
+fn searches<'a>(on: &'a Workload, queries: Vec<&'a [u8]>) -> Vec<Call<'a>> {
+    queries.into_iter().map(|query| Call { of: &on.dictionaries[0], query }).collect()
+}
+
+/// A call for each query, to the dictionaries in turn.
+fn in_turn<'a>(on: &'a Workload, queries: Vec<&'a [u8]>) -> Vec<Call<'a>> {
+    let dictionaries = on.dictionaries.iter().cycle();
+    queries.into_iter().zip(dictionaries).map(|(query, of)| Call { of, query }).collect()
+}
+
+fn slices(queries: &[Vec<u8>]) -> Vec<&[u8]> {
+    queries.iter().map(Vec::as_slice).collect()
+}

@@ -1,0 +1,69 @@
+//! The independent implementation over an image that it parsed before: the
+//! functions of `crosscheck::answers` without their first step.
+
+use crosscheck::check::accept;
+use crosscheck::common::{labels_in, Refusal};
+use crosscheck::image::Image;
+use crosscheck::rules::Rules;
+
+const RULES: Rules = Rules::DOCUMENT;
+const MORE: u64 = 1 << 33;
+const VALUE: u64 = 1 << 32;
+
+pub struct Parsed(Image);
+
+impl Parsed {
+    pub fn of(bytes: &[u8]) -> Result<Parsed, Refusal> {
+        Image::parse(RULES, bytes).map(Parsed)
+    }
+
+    pub fn check(&self) -> u64 {
+        if let Some(refused) = self.refusal() {
+            return refused;
+        }
+        self.0.nodes.iter().filter(|node| node.is_leaf()).count() as u64
+    }
+
+    pub fn exact(&self, query: &[u8]) -> u64 {
+        value_number(self.0.exact(RULES, &labels_in(query)))
+    }
+
+    pub fn probe(&self, query: &[u8]) -> u64 {
+        let probe = self.0.probe(RULES, &labels_in(query));
+        let more = if probe.longer_keys { MORE } else { 0 };
+        more + value_number(probe.value)
+    }
+
+    pub fn longest(&self, query: &[u8]) -> u64 {
+        self.0.longest(RULES, &labels_in(query)) as u64
+    }
+
+    /// `places` has the words of all 65 places.
+    pub fn prefixes(&self, query: &[u8], places: &mut [u32]) -> u64 {
+        let matches = self.0.prefixes(RULES, &labels_in(query));
+        places.fill(0);
+        for (pair, (length, value)) in places.chunks_exact_mut(2).zip(&matches) {
+            pair.copy_from_slice(&[*length as u32, *value]);
+        }
+        matches.len() as u64
+    }
+
+    /// Checks the image too, as each completion has to.
+    pub fn complete(&self, prefix: &[u8], room: &mut [u8]) -> u64 {
+        if let Some(refused) = self.refusal() {
+            return refused;
+        }
+        let completed = self.0.complete(RULES, &labels_in(prefix), room);
+        let more = if completed.stopped { MORE } else { 0 };
+        more + u64::from(completed.count)
+    }
+
+    /// The answer that 9 to 12 give, if one of them does.
+    fn refusal(&self) -> Option<u64> {
+        accept(RULES, &self.0).err().map(|Refusal(number)| u64::from(number) << 40)
+    }
+}
+
+fn value_number(value: Option<u32>) -> u64 {
+    value.map_or(0, |value| VALUE + u64::from(value))
+}

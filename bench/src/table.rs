@@ -1,0 +1,115 @@
+//! Prints the measured times as tables.
+
+use std::fmt::{self, Display, Formatter};
+
+/// What was measured of an operation on one dictionary.
+pub struct Row {
+    pub keys: usize,
+    /// What the throughput counts, and how much of it a call handles.
+    pub amount: (&'static str, f64),
+    /// Seconds for a call: product, Rust, and Rust with the image parsed before if
+    /// there is such.
+    pub times: Vec<f64>,
+}
+
+pub struct Table {
+    pub title: &'static str,
+    pub rows: Vec<Row>,
+}
+
+const HEADS: [&str; 7] =
+    ["keys", "product", "throughput", "Rust", "ratio", "Rust, parsed", "ratio"];
+const WIDTHS: [usize; 7] = [8, 11, 18, 11, 9, 14, 7];
+
+impl Display for Table {
+    fn fmt(&self, f: &mut Formatter) -> fmt::Result {
+        writeln!(f, "{}", self.title)?;
+        line(f, HEADS.map(String::from))?;
+        self.rows.iter().try_for_each(|row| line(f, row.cells()))?;
+        match &self.rows[..] {
+            [first, .., last] => line(f, growth(first, last)),
+            _ => Ok(()),
+        }
+    }
+}
+
+impl Row {
+    fn cells(&self) -> [String; 7] {
+        let (unit, amount) = self.amount;
+        let ratio = |other: usize| self.optional(other, |time| ratio(self.times[0] / time));
+        [
+            grouped(self.keys),
+            duration(self.times[0]),
+            rate(amount / self.times[0], unit),
+            duration(self.times[1]),
+            ratio(1),
+            self.optional(2, duration),
+            ratio(2),
+        ]
+    }
+
+    /// What `show` makes of a time that may be missing.
+    fn optional(&self, at: usize, show: impl FnOnce(f64) -> String) -> String {
+        self.times.get(at).map_or("-".to_string(), |time| show(*time))
+    }
+}
+
+/// How many times as long a call takes on the last dictionary as on the first.
+fn growth(first: &Row, last: &Row) -> [String; 7] {
+    let times = |at: usize| last.optional(at, |time| format!("x {:.1}", time / first.times[at]));
+    let nothing = String::new;
+    ["growth".to_string(), times(0), nothing(), times(1), nothing(), times(2), nothing()]
+}
+
+fn line(f: &mut Formatter, cells: [String; 7]) -> fmt::Result {
+    let padded = cells.iter().zip(WIDTHS).map(|(cell, width)| format!("{cell:>width$}"));
+    writeln!(f, "{}", padded.collect::<String>().trim_end())
+}
+
+/// Three digits of a number from 1 to 999; all digits of a larger one.
+fn three_digits(number: f64) -> String {
+    let decimals = match number {
+        ..10.0 => 2,
+        ..100.0 => 1,
+        _ => 0,
+    };
+    format!("{number:.decimals$}")
+}
+
+fn duration(seconds: f64) -> String {
+    let (number, unit) = match seconds {
+        ..1e-6 => (seconds * 1e9, "ns"),
+        ..1e-3 => (seconds * 1e6, "us"),
+        ..1.0 => (seconds * 1e3, "ms"),
+        _ => (seconds, "s"),
+    };
+    format!("{} {unit}", three_digits(number))
+}
+
+fn rate(per_second: f64, unit: &str) -> String {
+    let (number, prefix) = match per_second {
+        ..1e3 => (per_second, ""),
+        ..1e6 => (per_second / 1e3, "k"),
+        ..1e9 => (per_second / 1e6, "M"),
+        _ => (per_second / 1e9, "G"),
+    };
+    let unit = format!("{prefix}{unit}/s");
+    format!("{} {}", three_digits(number), unit.trim_start())
+}
+
+fn ratio(ratio: f64) -> String {
+    match ratio {
+        ..0.001 => format!("{ratio:.5}"),
+        ..0.01 => format!("{ratio:.4}"),
+        ..0.1 => format!("{ratio:.3}"),
+        _ => format!("{ratio:.2}"),
+    }
+}
+
+/// A number with a comma before each three digits.
+pub fn grouped(number: usize) -> String {
+    match number {
+        ..1_000 => number.to_string(),
+        _ => format!("{},{:03}", grouped(number / 1_000), number % 1_000),
+    }
+}
