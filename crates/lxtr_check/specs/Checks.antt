@@ -1,10 +1,11 @@
 -- Rules 10 to 12 and the check as the code makes them, test by test. Results of calls are variables: each law says which definition
 -- the tests of one return make.
 use Prim.Native.Nat.{ℕ, zero, suc, _+_, _-_, _^_, _≤_, _<_}
-use mathlib.Core.Path.{_≡_, refl, sym, _∙_}
-use mathlib.Core.Logic.{_≢_}
+use mathlib.Core.Path.{_≡_, refl, sym, ap, _∙_}
+use mathlib.Core.Logic.{_≢_, _⊎_, inl, inr, ⊎-elim}
 use mathlib.Core.List.{List}
-use mathlib.Core.Bool.{Bool, true, false, _||_, not, Bool·beq, or-true, or-false}
+use mathlib.Core.Bool.{Bool, true, false, _&&_, _||_, not, Bool·beq, or-true, or-false, and-false}
+use native.Mathlib.Numerals.{add-one}
 use native.Mathlib.Omega.{arith}
 use native.Mathlib.Decide.{decLt}
 use lib.Dec.{leb, ltb, eqb}
@@ -22,13 +23,31 @@ use Rattle.lxtr_laws.specs.Ranges.{tests}
 use Rattle.lxtr_laws.specs.Refusing.{first-stands, stands}
 use Rattle.lxtr_laws.specs.Tallies.{CountSoFar, count-small}
 use Rattle.lxtr_laws.specs.Passed.{Whole, Passed, header-passed}
-use Rattle.lxtr_laws.specs.Facts.{SlotRight, unused-parent}
+use Rattle.lxtr_laws.specs.Facts.{UsedFrom2, Used, SlotRight, ancestor, unused-parent}
 use Rattle.lxtr_laws.specs.Lists.{in-list, in-children}
 use Rattle.lxtr_laws.specs.Faults.{used-from-2, slots-right, offsets-right, parts-pass}
 
 -- a count of slots fits
 pub count-fits : (f : ℕ → Bool) (m i n : ℕ) (b : List ℕ) (r : Bool) → CountSoFar f i m n → Whole b → m ≡ slotCount b → i < m → Fits w32 (n + boolByte r)
 count-fits f m i n b r s ok e h = fits-under w32 (n + boolByte r) (2 ^ 32) (omega (arith, count-small f m i n s r h, ok .sized .slots-to)) tt
+
+-- a loop that looks at all numbers below a bound m: r is whether one of those below i passes the test f
+pub record AnySoFar (f : ℕ → Bool) (i m : ℕ) (r : Bool) : Type 0 where
+  pub to : i ≤ m
+  pub any : r ≡ anyBelow i f
+
+module _ (f : ℕ → Bool) (m : ℕ) where
+  pub any-start : AnySoFar f 0 m false
+  unfolding anyBelow
+  any-start = record { to = omega arith; any = refl }
+
+  module _ (i : ℕ) (r : Bool) (s : AnySoFar f i m r) where
+    pub any-next : (t : Bool) → i < m → t ≡ f i → AnySoFar f (i + 1) m (r || t)
+    unfolding anyBelow
+    any-next t h e = record { to = omega arith; any = rw (add-one, anyBelow, ← e, ← s .any) }
+
+    pub any-end : (bound : ℕ) → m ≡ bound → m ≤ i → r ≡ anyBelow bound f
+    any-end bound same h = let e : i ≡ bound = omega (arith, s .to) in rw e at (s .any)
 
 -- a slot from 2 up that is unused has parent 0
 no-parent : (b : List ℕ) (s : ℕ) → 2 ≤ s → isUsedFrom2 b s ≡ false → parent b s ≡ 0
@@ -107,63 +126,87 @@ module _ (b : List ℕ) (r : Bool) (falls : r ≡ anyBelow (slotCount b) (offset
   unfolding listsWrong
   lists-tested e u w c o h children used entries lone root = rw (← falls, h, ← children, ← used, ← entries, ← lone, ← root)
 
--- 12: where no slot is wrong, each step to the parent comes to a slot
-module _ (b : List ℕ) where
-  parent-slot : Whole b → slotsWrong b ≡ false → (s : ℕ) → s < slotCount b → parent b s < slotCount b
-  parent-slot ok right s h = go s (slots-right b .0 right s h) (decLt 0 (parent b s))
+-- 12: where no slot is wrong
+module _ (b : List ℕ) (ok : Whole b) (right : slotsWrong b ≡ false) where
+  right-at : (s : ℕ) → s < slotCount b → SlotRight b s
+  right-at = slots-right b .0 right
+
+  -- a slot has parent 0 or is a used one from 2 up
+  by-parent : (s : ℕ) → s < slotCount b → (parent b s ≡ 0) ⊎ UsedFrom2 b s
+  by-parent s h = go s (right-at s h) (decLt 0 (parent b s))
     where
-      some-slot : 0 < slotCount b
-      some-slot = omega (arith, ok .sized .slots-from)
+      go : (n : ℕ) → SlotRight b n → Dec (0 < parent b n) → (parent b n ≡ 0) ⊎ UsedFrom2 b n
+      go zero r d = inl (unused-parent (r .zero refl))
+      go (suc zero) r d = inl (r .root refl .1)
+      go (suc (suc n)) r (no e) = inl (omega arith)
+      go (suc (suc n)) r (yes e) = inr (omega arith, λ z. omega arith)
 
-      go : (n : ℕ) → SlotRight b n → Dec (0 < parent b n) → parent b n < slotCount b
-      go n r (no e) = omega (arith, some-slot)
-      go zero r (yes e) = absurd (omega (arith, unused-parent (r .zero refl)))
-      go (suc zero) r (yes e) = absurd (omega (arith, r .root refl .1))
-      go (suc (suc n)) r (yes e) = r .used (omega arith, λ z. omega arith) .parent-below
+  -- so a step to the parent comes to a slot
+  parent-slot : (s : ℕ) → s < slotCount b → parent b s < slotCount b
+  parent-slot s h = ⊎-elim (λ e. omega (arith, ok .sized .slots-from)) (λ u. right-at s h .used u .parent-below) (by-parent s h)
 
--- slot s reaches slot 1 exactly when slot n does by k or fewer steps
-pub record Reaching (b : List ℕ) (s k n : ℕ) : Type 0 where
-  pub below : n < slotCount b
-  pub rest : reaches b lengthCount s ≡ reaches b k n
+  -- and a way up that comes to slot 0 stays there
+  stays : (k : ℕ) → ancestor b k 0 ≡ 0
+  unfolding ancestor
+  stays zero = refl
+  stays (suc k) = ap (ancestor b k) (unused-parent (right-at 0 (omega (arith, ok .sized .slots-from)) .zero refl)) ∙ stays k
 
-module _ (b : List ℕ) (s : ℕ) where
-  pub reach-start : s < slotCount b → Reaching b s lengthCount s
-  reach-start h = record { below = h; rest = refl }
+  -- from a used slot it comes there one step after slot 1, and in no other way
+  one-later : (k s : ℕ) → s < slotCount b → Used b s → reaches b k s ≡ eqb (ancestor b (suc k) s) 0
+  unfolding reaches ancestor
+  one-later zero s h (inl e) = eq-eqb s 1 e ∙ sym (eq-eqb (parent b s) 0 (right-at s h .root e .1))
+  one-later zero s h (inr u) = ne-eqb s 1 (λ z. omega (arith, u .0)) ∙ sym (ne-eqb (parent b s) 0 (u .1))
+  one-later (suc k) s h (inl e) = rw (eq-eqb s 1 e) (sym (eq-eqb (ancestor b (suc k) (parent b s)) 0 (ap (ancestor b (suc k)) (right-at s h .root e .1) ∙ stays (suc k))))
+  one-later (suc k) s h (inr u) = let r = right-at s h .used u in rw (ne-eqb s 1 (λ z. omega (arith, u .0))) (one-later k (parent b s) (r .parent-below) (r .parent-used))
 
-  module _ (k n : ℕ) (w : Reaching b s k n) where
-    pub reach-found : 0 < k → n ≡ 1 → true ≡ reaches b lengthCount s
-    unfolding reaches
-    reach-found h e = sym (w .rest ∙ at k h)
-      where
-        at : (k : ℕ) → 0 < k → reaches b k n ≡ true
-        at zero h = absurd (omega arith)
-        at (suc k) h = rw (eq-eqb n 1 e)
+  -- from any other slot in one step: so exactly those fail to come there that rule 12 refuses
+  way-up : (k s : ℕ) → s < slotCount b → not (eqb (ancestor b (suc k) s) 0) ≡ (isUsedFrom2 b s && not (reaches b k s))
+  unfolding isUsedFrom2 ancestor
+  way-up k s h = ⊎-elim none some (by-parent s h)
+    where
+      none : parent b s ≡ 0 → not (eqb (ancestor b (suc k) s) 0) ≡ (isUsedFrom2 b s && not (reaches b k s))
+      none e = rw (e, stays k, and-false)
 
-    pub reach-next : (p : ℕ) → Whole b → slotsWrong b ≡ false → 0 < k → n ≢ 1 → p ≡ parent b n → Reaching b s (k - 1) p
-    unfolding reaches
-    reach-next p ok right h e up = record { below = rw up (parent-slot b ok right n (w .below)); rest = w .rest ∙ rw up (at k h) }
-      where
-        at : (k : ℕ) → 0 < k → reaches b k n ≡ reaches b (k - 1) (parent b n)
-        at zero h = absurd (omega arith)
-        at (suc k) h = let q : suc k - 1 ≡ k = omega arith in rw (q, ne-eqb n 1 e)
+      some : UsedFrom2 b s → not (eqb (ancestor b (suc k) s) 0) ≡ (isUsedFrom2 b s && not (reaches b k s))
+      some u = rw (used-from-2 b s .1 u, one-later k s h (inr u))
 
-    pub reach-end : k ≤ 0 → eqb n 1 ≡ reaches b lengthCount s
-    unfolding reaches
-    reach-end h = sym (w .rest ∙ at k h)
-      where
-        at : (k : ℕ) → k ≤ 0 → reaches b k n ≡ eqb n 1
-        at zero h = refl
-        at (suc k) h = absurd (omega arith)
+-- n steps up from slot s lead to where k steps up from slot `at` do
+pub record Ascending (b : List ℕ) (n s k at : ℕ) : Type 0 where
+  pub below : at < slotCount b
+  pub rest : ancestor b n s ≡ ancestor b k at
 
-  -- u is whether s is a used slot from 2 up
-  module _ (u : Bool) (used : u ≡ isUsedFrom2 b s) where
-    pub reach-unused : not u ≡ true → false ≡ unreachable b s
-    unfolding unreachable
-    reach-unused h = rw (← used, not-is-true u .0 h)
+ancestor-sum : (b : List ℕ) (j k s : ℕ) → ancestor b (j + k) s ≡ ancestor b k (ancestor b j s)
+unfolding ancestor
+ancestor-sum b zero k s = let e : 0 + k ≡ k = omega arith in rw e
+ancestor-sum b (suc j) k s = let e : suc j + k ≡ suc (j + k) = omega arith in rw e (ancestor-sum b j k (parent b s))
 
-    pub reach-tested : (r : Bool) → not u ≡ false → r ≡ reaches b lengthCount s → not r ≡ unreachable b s
-    unfolding unreachable
-    reach-tested r h e = rw (← used, not-is-false u .0 h, ← e)
+module _ (b : List ℕ) (n s : ℕ) where
+  pub ascend-start : s < slotCount b → Ascending b n s n s
+  ascend-start h = record { below = h; rest = refl }
+
+  module _ (k at : ℕ) (w : Ascending b n s k at) where
+    -- j of the steps lead to slot p
+    pub ascend-by : (j p : ℕ) → j ≤ k → p ≡ ancestor b j at → p < slotCount b → Ascending b n s (k - j) p
+    ascend-by j p h e l =
+        let q : j + (k - j) ≡ k = omega arith in
+        record { below = l; rest = w .rest ∙ sym (ap (λ (i : ℕ). ancestor b i at) q) ∙ ancestor-sum b j (k - j) at ∙ ap (ancestor b (k - j)) (sym e) }
+
+    pub ascend-next : (p : ℕ) → Whole b → slotsWrong b ≡ false → 0 < k → p ≡ parent b at → Ascending b n s (k - 1) p
+    unfolding ancestor
+    ascend-next p ok right h up = ascend-by 1 p (omega arith) up (rw up (parent-slot b ok right at (w .below)))
+
+    pub ascend-end : k ≤ 0 → at ≡ ancestor b n s
+    unfolding ancestor
+    ascend-end h = let z : k ≡ 0 = omega arith in sym (rw z at (w .rest))
+
+module _ (b : List ℕ) (s k at : ℕ) (w : Ascending b (suc lengthCount) s k at) (ok : Whole b) (right : slotsWrong b ≡ false) (slot : s < slotCount b) where
+  pub reach-tested : (r : ℕ) → r ≡ ancestor b k at → not (eqb r 0) ≡ unreachable b s
+  unfolding unreachable
+  reach-tested r e = rw (e, ← w .rest) (way-up b ok right lengthCount s slot)
+
+  pub reach-found : (j p : ℕ) → j ≤ k → p ≡ ancestor b j at → p < slotCount b → p ≡ 0 → false ≡ unreachable b s
+  unfolding unreachable
+  reach-found j p h e l z = rw (ascend-by b (suc lengthCount) s k at w j p h e l .rest, z, stays b ok right (k - j)) at (way-up b ok right lengthCount s slot)
 
 -- the check: r is the refusal that a call answered
 module _ (b : List ℕ) (r : ℕ) where

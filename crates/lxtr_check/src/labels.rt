@@ -25,18 +25,18 @@ fn chain_of(label: u32) -> usize
 }
 
 // Whether a place before i lists the same label. An entry of a table is one more than a place, and 0 for none: `last` has the last
-// entry of each chain, `before` for each place the entry before it in its chain.
-fn listed_before(image: &[u8], i: u32, last: &[u32], before: &[u32]) -> bool
+// entry of each chain, `before` for each place the entry before it in its chain. Places are below MAX_LISTED, so 16 bits hold them.
+fn listed_before(image: &[u8], i: u16, last: &[u16], before: &[u16]) -> bool
     requires { ⌜ Passed (now image) ⌝ }
     requires { ⌜ i < labelCount (now image) ⌝ }
     requires { ⌜ Chained (now image) i (now last) (now before) ⌝ }
     ensures { λ r. ⌜ r ≡ anyBelow i (sameLabel (now (image .entry)) i) ⌝ }
 {
-    let label = label_at(image, i);
+    let label = label_at(image, i as u32);
     let mut entry = last[chain_of(label)];
     while 0 < entry {
         let place = entry - 1;
-        if label_at(image, place) == label {
+        if label_at(image, place as u32) == label {
             return true;
         }
         entry = before[place as usize];
@@ -45,26 +45,26 @@ fn listed_before(image: &[u8], i: u32, last: &[u32], before: &[u32]) -> bool
 }
 
 // The label at place i is wrong. Only scalar values come into the chains, which keeps these short.
-fn label_wrong(image: &[u8], i: u32, last: &[u32], before: &[u32]) -> bool
+fn label_wrong(image: &[u8], i: u16, last: &[u16], before: &[u16]) -> bool
     requires { ⌜ Passed (now image) ⌝ }
     requires { ⌜ i < labelCount (now image) ⌝ }
     requires { ⌜ Chained (now image) i (now last) (now before) ⌝ }
     ensures { λ r. ⌜ r ≡ labelWrong (now (image .entry)) i ⌝ }
 {
-    if !is_scalar(label_at(image, i)) {
+    if !is_scalar(label_at(image, i as u32)) {
         return true;
     }
     listed_before(image, i, last, before)
 }
 
 // Puts the label at place i at the end of its chain.
-fn put_last(image: &[u8], i: u32, last: &mut [u32], before: &mut [u32])
+fn put_last(image: &[u8], i: u16, last: &mut [u16], before: &mut [u16])
     requires { ⌜ Passed (now image) ⌝ }
     requires { ⌜ i < labelCount (now image) ⌝ }
     requires { ⌜ Chained (now image) i (now last) (now before) ⌝ }
     ensures { λ _. ⌜ Chained (now (image .entry)) (i + 1) (now (last .exit)) (now (before .exit)) ⌝ }
 {
-    let chain = chain_of(label_at(image, i));
+    let chain = chain_of(label_at(image, i as u32));
     before[i as usize] = last[chain];
     last[chain] = i + 1;
 }
@@ -74,10 +74,10 @@ pub fn labels_wrong(image: &[u8]) -> bool
     ensures { λ r. ⌜ r ≡ labelsWrong (now (image .entry)) ⌝ }
 {
     let count = label_count(image);
-    let mut last = [0u32; CHAINS];
-    let mut before = [0u32; MAX_LISTED];
-    let mut i: u32 = 0;
-    while i < count {
+    let mut last = [0u16; CHAINS];
+    let mut before = [0u16; MAX_LISTED];
+    let mut i: u16 = 0;
+    while (i as u32) < count {
         if label_wrong(image, i, &last, &before) {
             return true;
         }

@@ -135,19 +135,19 @@ fn childless(image: &[u8], s: u32) -> bool
     is_used_from_2(image, s) & !is_leaf(image, s) & (list_width(image, s) == 0)
 }
 
+// It looks at all slots: which of them are leaves is hard to predict, so no branch depends on it.
 fn some_childless(image: &[u8]) -> bool
     requires { ⌜ Whole (now image) ⌝ }
     ensures { λ r. ⌜ r ≡ anyBelow (slotCount (now (image .entry))) (childless (now (image .entry))) ⌝ }
 {
     let slots = slot_count(image);
+    let mut found = false;
     let mut s: u32 = 0;
     while s < slots {
-        if childless(image, s) {
-            return true;
-        }
+        found = found | childless(image, s);
         s += 1;
     }
-    false
+    found
 }
 
 // Slot 1 has no child and its base is not 0.

@@ -1,45 +1,57 @@
-// Rule 12: some used slot from 2 up doesn't reach slot 1. Where no slot is wrong (rule 10), a parent is always a slot.
+// Rule 12: some used slot from 2 up doesn't reach slot 1. Where no slot is wrong (rule 10), each parent is a slot, slots 0 and 1 have
+// parent 0, and a used slot from 2 up has a used one. So from a used slot the way up comes to slot 0 one step after slot 1, in no
+// other way, and stays there: it is enough to look at the slot after so many steps, and no step needs a test.
 ghost use mathlib.Core.Path.{_≡_};
 ghost use mathlib.Core.Bool.{false};
 ghost use Prim.Native.Nat.{_<_};
-ghost use Rattle.lxtr_spec.specs.Labels.{lengthCount};
 ghost use Rattle.lxtr_spec.specs.Image.{slotCount};
-ghost use Rattle.lxtr_spec.specs.Refusals.{slotsWrong, reaches, unreachable, someUnreachable};
+ghost use Rattle.lxtr_spec.specs.Refusals.{slotsWrong, unreachable, someUnreachable};
 ghost use Rattle.lxtr_laws.specs.Passed.{Whole};
-use crate::slots::is_used_from_2;
+ghost use Rattle.lxtr_laws.specs.Facts.{ancestor};
 use lxtr_image::nodes::parent_of;
 use lxtr_image::sections::slot_count;
 use lxtr_spec::LENGTH_COUNT;
 
-// Slot s reaches slot 1 by LENGTH_COUNT or fewer steps to the parent.
-fn reaches(image: &[u8], s: u32) -> bool
+// From slots that reach slot 1 by LENGTH_COUNT or fewer steps, so many lead to slot 0.
+const STEPS: usize = LENGTH_COUNT + 1;
+
+// So many steps are made between two looks. From most slots they lead to slot 0 already, so that the first look decides.
+const STRIDE: usize = 8;
+
+// The slot so many steps to the parent away.
+fn ancestor(image: &[u8], s: u32, steps: usize) -> u32
     requires { ⌜ Whole (now image) ⌝ }
     requires { ⌜ slotsWrong (now image) ≡ false ⌝ }
     requires { ⌜ s < slotCount (now image) ⌝ }
-    ensures { λ r. ⌜ r ≡ reaches (now (image .entry)) lengthCount s ⌝ }
+    ensures { λ r. ⌜ r ≡ ancestor (now (image .entry)) steps s ⌝ }
+    ensures { λ r. ⌜ r < slotCount (now (image .entry)) ⌝ }
 {
     let mut at = s;
-    let mut left: usize = LENGTH_COUNT;
+    let mut left = steps;
     while 0 < left {
-        if at == 1 {
-            return true;
-        }
         at = parent_of(image, at);
         left -= 1;
     }
-    at == 1
+    at
 }
 
+// STEPS steps do not lead to slot 0.
 fn unreachable(image: &[u8], s: u32) -> bool
     requires { ⌜ Whole (now image) ⌝ }
     requires { ⌜ slotsWrong (now image) ≡ false ⌝ }
     requires { ⌜ s < slotCount (now image) ⌝ }
     ensures { λ r. ⌜ r ≡ unreachable (now (image .entry)) s ⌝ }
 {
-    if !is_used_from_2(image, s) {
-        return false;
+    let mut at = s;
+    let mut left: usize = STEPS;
+    while STRIDE <= left {
+        at = ancestor(image, at, STRIDE);
+        if at == 0 {
+            return false;
+        }
+        left -= STRIDE;
     }
-    !reaches(image, s)
+    ancestor(image, at, left) != 0
 }
 
 pub fn some_unreachable(image: &[u8]) -> bool

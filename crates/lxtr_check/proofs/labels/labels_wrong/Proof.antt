@@ -26,6 +26,7 @@ labels-wrong-spec =
     (λ c. (search needs, search scan-start, search chained-start))
     (λ c. search needs)
     (λ c. search needs)
+    (λ c. search needs)
     (λ c κs. search needs)
     (λ c. search scan-hit)
     (λ c. search needs)

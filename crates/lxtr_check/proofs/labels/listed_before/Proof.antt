@@ -25,6 +25,7 @@ listed-before-spec =
     (λ c. search chain-there)
     (λ c. (search needs, search look-start))
     (λ c. search needs)
+    (λ c. search needs)
     (λ c κs. (search needs, search look-inside))
     (λ c. search look-hit)
     (λ c. search needs)
