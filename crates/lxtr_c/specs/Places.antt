@@ -1,7 +1,7 @@
--- Lengths and values as words: word i is that of place i / 2, a length where i is even and a value where it is odd.
+-- Lengths and values as words: place j is words 2 * j and 2 * j + 1, its length and its value.
 -- Written one after the other, the first i words are at the front of the places.
-use Prim.Native.Nat.{ℕ, zero, suc, _+_, _*_, _/_, _%_, _≤_, _<_, min}
-use native.Mathlib.Nat.{add-zero, zero-add, div-add-mod'}
+use Prim.Native.Nat.{ℕ, zero, suc, _+_, _*_, _/_, _≤_, _<_, min}
+use native.Mathlib.Nat.{add-zero, zero-add}
 use native.Mathlib.Numerals.{add-one}
 use native.Mathlib.Omega.{arith}
 use mathlib.Core.Path.{_≡_, refl, sym, ap, _∙_}
@@ -34,21 +34,18 @@ module _ (xs ys : List ℕ) where
       let next : k + 1 + j ≡ k + suc j = omega arith in
       rw two (word-of n (k + 1) j t (omega arith) l ∙ ap (λ (i : ℕ). getD (placeWords xs ys i) t 0) next)
 
-  module _ (i : ℕ) (h : i < 2 * lengthCount) where
-    word-is : (t : ℕ) → i % 2 ≡ t → getD (placeWords xs ys (i / 2)) t 0 ≡ getD (alternately xs ys) i 0
+  module _ (j : ℕ) (h : j < lengthCount) where
+    word-is : (t : ℕ) → t < 2 → getD (placeWords xs ys j) t 0 ≡ getD (alternately xs ys) (2 * j + t) 0
     unfolding alternately
-    word-is t e =
-        let whole : i ≡ 2 * (i / 2) + t = omega (arith, div-add-mod' i 2) in
-        sym (ap (λ (k : ℕ). getD (alternately xs ys) k 0) whole ∙ word-of lengthCount 0 (i / 2) t (omega arith) (omega arith)
-        ∙ ap (λ (k : ℕ). getD (placeWords xs ys k) t 0) (zero-add (i / 2)))
+    word-is t l = sym (word-of lengthCount 0 j t h l ∙ ap (λ (k : ℕ). getD (placeWords xs ys k) t 0) (zero-add j))
 
-    pub length-word : i % 2 ≡ 0 → getD xs (i / 2) 0 ≡ getD (alternately xs ys) i 0
+    length-word : getD xs j 0 ≡ getD (alternately xs ys) (2 * j) 0
     unfolding placeWords
-    length-word z = word-is 0 z
+    length-word = word-is 0 (omega arith) ∙ ap (λ (k : ℕ). getD (alternately xs ys) k 0) (add-zero (2 * j))
 
-    pub value-word : (i % 2 ≡ 0 → ⊥) → getD ys (i / 2) 0 ≡ getD (alternately xs ys) i 0
+    value-word : getD ys j 0 ≡ getD (alternately xs ys) (2 * j + 1) 0
     unfolding placeWords
-    value-word z = word-is 1 (omega arith)
+    value-word = word-is 1 (omega arith)
 
 -- of lengths xs and values ys the first i words are in the places, which were places₀ before
 pub record WordsIn (xs ys places₀ places : List ℕ) (i : ℕ) : Type 0 where
@@ -75,7 +72,7 @@ all-words (w ∷ ws) (p ∷ places) zero e = absurd (omega arith)
 all-words (w ∷ ws) (p ∷ places) (suc i) e = ap (λ (l : List ℕ). w ∷ l) (all-words ws places i (omega arith))
 
 module _ (xs ys places₀ places : List ℕ) (i : ℕ) (g : WordsIn xs ys places₀ places i) (count : ℕ) (all : count ≡ min (2 * lengthCount) (length places₀)) where
-  pub words-next : (w : ℕ) → w ≡ getD (alternately xs ys) i 0 → i < count → WordsIn xs ys places₀ (set places i w) (i + 1)
+  words-next : (w : ℕ) → w ≡ getD (alternately xs ys) i 0 → i < count → WordsIn xs ys places₀ (set places i w) (i + 1)
   words-next w e h = record {
     same-length = length-set places i w ∙ g .same-length;
     within = omega arith;
@@ -85,3 +82,20 @@ module _ (xs ys places₀ places : List ℕ) (i : ℕ) (g : WordsIn xs ys places
   pub words-end : count ≤ i → places ≡ atFront (alternately xs ys) places₀
   unfolding atFront
   words-end h = g .are ∙ all-words (alternately xs ys) places₀ i (omega (arith, g .within, alternately-length xs ys))
+
+-- of a turn of the loop over pairs, and of its end, with or without one length more
+module _ (xs ys places₀ places : List ℕ) (i count pairs : ℕ) (all : count ≡ min (2 * lengthCount) (length places₀)) (half : pairs ≡ count / 2) (g : WordsIn xs ys places₀ places (2 * i)) where
+  length-next : 2 * i < count → WordsIn xs ys places₀ (set places (2 * i) (getD xs i 0)) (2 * i + 1)
+  length-next h = words-next xs ys places₀ places (2 * i) g count all (getD xs i 0) (length-word xs ys i (omega arith)) h
+
+  pub value-room : i < pairs → 2 * i + 1 < length (set places (2 * i) (getD xs i 0))
+  value-room h = omega (arith, length-next (omega arith) .same-length)
+
+  pub pair-next : i < pairs → WordsIn xs ys places₀ (set (set places (2 * i) (getD xs i 0)) (2 * i + 1) (getD ys i 0)) (2 * (i + 1))
+  pair-next h =
+      let e : 2 * (i + 1) ≡ 2 * i + 1 + 1 = omega arith in
+      rw e
+      (words-next xs ys places₀ (set places (2 * i) (getD xs i 0)) (2 * i + 1) (length-next (omega arith)) count all (getD ys i 0) (value-word xs ys i (omega arith)) (omega arith))
+
+  pub length-end : pairs ≤ i → 2 * i < count → set places (2 * i) (getD xs i 0) ≡ atFront (alternately xs ys) places₀
+  length-end h l = words-end xs ys places₀ (set places (2 * i) (getD xs i 0)) (2 * i + 1) (length-next l) count all (omega arith)

@@ -13,8 +13,9 @@ use lxtr_check::check;
 use lxtr_complete::complete;
 use lxtr_search::exact;
 use lxtr_search::longest;
-use lxtr_search::prefixes;
+use lxtr_search::matches::put_prefixes;
 use lxtr_search::probe;
+use lxtr_spec::LENGTH_COUNT;
 
 // The check: the number of pairs.
 #[no_mangle]
@@ -60,12 +61,15 @@ pub extern "C" fn lxtr_longest(image: &[u8], query: &[u8]) -> u64
 pub extern "C" fn lxtr_prefixes(image: &[u8], query: &[u8], places: &mut [u32]) -> u64
     ensures { λ r. ⌜ record { number = r; places = now (places .exit) } ≡ hostPrefixesOf (now (image .entry)) (now (query .entry)) (now (places .entry)) ⌝ }
 {
-    let answer = prefixes(image, query);
-    let number = host_number(answer.refusal, false, false, answer.count);
-    if answer.refusal != 0 {
+    let mut lengths = [0u32; LENGTH_COUNT];
+    let mut values = [0u32; LENGTH_COUNT];
+    let mut refusal: u8 = 0;
+    let count = put_prefixes(image, query, &mut lengths, &mut values, &mut refusal);
+    let number = host_number(refusal, false, false, count);
+    if refusal != 0 {
         return number;
     }
-    put_places(&answer.lengths, &answer.values, places);
+    put_places(&lengths, &values, places);
     number
 }
 

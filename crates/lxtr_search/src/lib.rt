@@ -1,10 +1,10 @@
 // Searches LXTR images: exact match, prefixes, longest match and probe, for any bytes as image and query.
 // They walk every image that passes refusals 1 to 8, whether or not the check would accept it. First the parts they share,
-// then the four searches, which any caller may use. The functions of `query` and `walk` are for the crates above: most require
-// what answer 0 of `query::search_refusal` leaves known.
+// then the four searches, which any caller may use. The functions of `query`, `walk` and `matches` are for the crates above:
+// most require what answer 0 of `query::search_refusal` leaves known.
 pub mod query; // the labels of a query, and the refusals before a search
 pub mod walk; // one step, the walk, and what is found where it ends
-mod matches; // the prefixes of a query that have a value
+pub mod matches; // the prefixes of a query that have a value
 
 ghost use mathlib.Core.Path.{_≡_};
 ghost use mathlib.Core.Option.{none};
@@ -14,14 +14,14 @@ ghost use Rattle.lxtr_spec.specs.Labels.{labelsOf};
 ghost use Rattle.lxtr_spec.specs.Answers.{found, exactMeans, probeMeans};
 ghost use Rattle.lxtr_laws.specs.Passed.{Passed};
 use crate::matches::longest_match;
-use crate::matches::no_matches;
-use crate::matches::prefix_matches;
+use crate::matches::put_prefixes;
 use crate::query::search_refusal;
 use crate::walk::longer_at;
 use crate::walk::value_at;
 use crate::walk::walk_within;
 use lxtr_spec::Exact;
 use lxtr_spec::Found;
+use lxtr_spec::LENGTH_COUNT;
 use lxtr_spec::Prefixes;
 use lxtr_spec::Probe;
 
@@ -57,11 +57,16 @@ pub fn exact(image: &[u8], query: &[u8]) -> Exact
 pub fn prefixes(image: &[u8], query: &[u8]) -> Prefixes
     ensures { λ r. ⌜ r ≡ prefixesOf (now (image .entry)) (now (query .entry)) ⌝ }
 {
-    let refusal = search_refusal(image, query);
-    if refusal != 0 {
-        return no_matches(refusal);
+    let mut lengths = [0u32; LENGTH_COUNT];
+    let mut values = [0u32; LENGTH_COUNT];
+    let mut refusal: u8 = 0;
+    let count = put_prefixes(image, query, &mut lengths, &mut values, &mut refusal);
+    Prefixes {
+        refusal,
+        count,
+        lengths,
+        values,
     }
-    prefix_matches(image, query)
 }
 
 // Longest: the longest prefix that `prefixes` reports, as the front part of the lent query; empty if none. The refusal is told

@@ -4,18 +4,18 @@ ghost use Prim.Native.Nat.{_<_};
 ghost use mathlib.Core.List.{[]};
 ghost use lib.ListN.{length, take};
 ghost use Rattle.lxtr_spec.specs.Labels.{maxLabels, lengthCount, labelsOf};
-ghost use Rattle.lxtr_spec.specs.Searches.{prefixMatches, prefixesAnswer, lastLength};
+ghost use Rattle.lxtr_spec.specs.Searches.{prefixMatches, prefixesAnswer, prefixesOf, lastLength};
 ghost use Rattle.lxtr_spec.specs.Answers.{found};
 ghost use Rattle.lxtr_laws.specs.Passed.{Passed};
 ghost use Rattle.lxtr_search.specs.Kept.{filled, withMatch, laterLength};
 use crate::query::label_at;
 use crate::query::label_count;
+use crate::query::search_refusal;
 use crate::walk::step_by;
 use crate::walk::value_at;
 use lxtr_spec::Found;
 use lxtr_spec::LENGTH_COUNT;
 use lxtr_spec::MAX_LABELS;
-use lxtr_spec::Prefixes;
 
 // How many labels of a query count: at most MAX_LABELS.
 fn counted_labels(query: &[u8]) -> u32
@@ -26,18 +26,6 @@ fn counted_labels(query: &[u8]) -> u32
         count as u32
     } else {
         MAX_LABELS as u32
-    }
-}
-
-// Prefixes' answer after a refusal: no match, every place zero.
-pub fn no_matches(refusal: u8) -> Prefixes
-    ensures { λ r. ⌜ r ≡ prefixesAnswer refusal [] ⌝ }
-{
-    Prefixes {
-        refusal,
-        count: 0,
-        lengths: [0u32; LENGTH_COUNT],
-        values: [0u32; LENGTH_COUNT],
     }
 }
 
@@ -60,15 +48,19 @@ fn put_match(
     count + 1
 }
 
-// All prefixes that have a value, shortest first.
-pub fn prefix_matches(image: &[u8], query: &[u8]) -> Prefixes
+// Puts all prefixes that have a value, shortest first, into arrays that hold zeros, and answers how many there are.
+fn put_matches(
+    image: &[u8],
+    query: &[u8],
+    lengths: &mut [u32; LENGTH_COUNT],
+    values: &mut [u32; LENGTH_COUNT],
+) -> u32
     requires { ⌜ Passed (now image) ⌝ }
-    ensures { λ r. ⌜ r ≡ prefixesAnswer 0 (prefixMatches (now (image .entry)) (now (query .entry))) ⌝ }
+    requires { ⌜ filled 0 (now lengths) (now values) ≡ prefixesAnswer 0 [] ⌝ }
+    ensures { λ r. ⌜ filled r (now (lengths .exit)) (now (values .exit)) ≡ prefixesAnswer 0 (prefixMatches (now (image .entry)) (now (query .entry))) ⌝ }
 {
     let labels = counted_labels(query);
-    let mut lengths = [0u32; LENGTH_COUNT];
-    let mut values = [0u32; LENGTH_COUNT];
-    let mut count = put_match(&mut lengths, &mut values, 0, 0, value_at(image, 1));
+    let mut count = put_match(lengths, values, 0, 0, value_at(image, 1));
     let mut n: u32 = 1;
     let mut i: u32 = 0;
     while i < labels {
@@ -76,16 +68,31 @@ pub fn prefix_matches(image: &[u8], query: &[u8]) -> Prefixes
             break;
         };
         let length = i + 1;
-        count = put_match(&mut lengths, &mut values, count, length, value_at(image, t));
+        count = put_match(lengths, values, count, length, value_at(image, t));
         n = t;
         i = length;
     }
-    Prefixes {
-        refusal: 0,
-        count,
-        lengths,
-        values,
+    count
+}
+
+// What `prefixes` answers, in lent arrays: how many matches there are. The refusal is told in `refusal`.
+pub fn put_prefixes(
+    image: &[u8],
+    query: &[u8],
+    lengths: &mut [u32; LENGTH_COUNT],
+    values: &mut [u32; LENGTH_COUNT],
+    refusal: &mut u8,
+) -> u32
+    ensures { λ r. ⌜ record { refusal = now (refusal .exit); count = r; lengths = now (lengths .exit); values = now (values .exit) } ≡ prefixesOf (now (image .entry)) (now (query .entry)) ⌝ }
+{
+    *lengths = [0u32; LENGTH_COUNT];
+    *values = [0u32; LENGTH_COUNT];
+    let number = search_refusal(image, query);
+    *refusal = number;
+    if number != 0 {
+        return 0;
     }
+    put_matches(image, query, lengths, values)
 }
 
 // Length k if it has a value, otherwise the one before.

@@ -2,34 +2,28 @@
 -- Each turn is one of the laws of `Matches` and `Kept`; where the walk stops or ends, these are all matches.
 use borrow.Author.Needs.{needs}
 use Prim.Native.Nat.{_-_}
-use mathlib.Core.Path.{_≡_, refl}
-use mathlib.Core.List.{[]}
+use mathlib.Core.Path.{_≡_}
 use native.Mathlib.Omega.{arith}
-use lib.ListN.{length, replicate}
-use Rattle.lxtr_spec.specs.Labels.{maxLabels, lengthCount}
+use lib.ListN.{length}
+use Rattle.lxtr_spec.specs.Labels.{maxLabels}
 use Rattle.lxtr_spec.specs.Searches.{prefixesAnswer}
 use Rattle.lxtr_laws.specs.Walking.{Walked, walked-start}
 use Rattle.lxtr_search.specs.Matches.{counted, matchesTo, counted-place, counted-next, counted-below, kept-stop, kept-end}
 use Rattle.lxtr_search.specs.Kept.{filled, filled-start, filled-next, filled-room}
-use Rattle.lxtr_search.proofs.matches.prefix_matches.Statement.{statement}
-use Rattle.lxtr_search.proofs.matches.prefix_matches.Tie as tie
+use Rattle.lxtr_search.proofs.matches.put_matches.Statement.{statement}
+use Rattle.lxtr_search.proofs.matches.put_matches.Tie as tie
 
 abbrev Inv-loop : tie.InvT-loop
-Inv-loop image query labels lengths₀ values₀ count₀ n₀ i₀ lengths values count n i =
+Inv-loop image query lengths₀ values₀ labels count₀ n₀ i₀ lengths values count n i =
     (labels ≡ length (counted query)) × Walked image (counted query) i n
     × (filled count lengths values ≡ prefixesAnswer 0 (matchesTo image query i))
 
 abbrev μ-loop : tie.MeasureT-loop
-μ-loop image query labels lengths₀ values₀ count₀ n₀ i₀ lengths values count n i = labels - i
+μ-loop image query lengths₀ values₀ labels count₀ n₀ i₀ lengths values count n i = labels - i
 
--- before the first match
-zeros : filled 0 (replicate lengthCount 0) (replicate lengthCount 0) ≡ prefixesAnswer 0 []
-unfolding maxLabels prefixesAnswer
-zeros = refl
-
-pub prefix-matches-spec : {M : Type 1} → statement M
+pub put-matches-spec : {M : Type 1} → statement M
 unfolding maxLabels
-prefix-matches-spec =
+put-matches-spec =
     tie.close
     (tie.spec
     Inv-loop
@@ -37,7 +31,7 @@ prefix-matches-spec =
     (λ c κs. search needs)
     (λ c κs. search needs)
     (λ c κs. omega arith)
-    (λ c. (search needs, search walked-start, search (filled-start, walked-start, zeros)))
+    (λ c. (search needs, search walked-start, search (filled-start, walked-start)))
     (λ c. search needs)
     (λ c κs. search counted-place)
     (λ c κs. search needs)
