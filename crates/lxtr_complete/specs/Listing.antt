@@ -4,22 +4,24 @@ use Prim.Native.Nat.{ℕ, suc, _+_, _-_, _≤_, _<_}
 use mathlib.Core.Path.{_≡_, refl, sym, ap, _∙_}
 use mathlib.Core.Logic.{_≢_}
 use mathlib.Core.List.{List, [], _∷_, _++_}
-use mathlib.Core.Bool.{Bool, true, false, cond}
+use mathlib.Core.Bool.{Bool, true, false, not, cond, true≢false}
 use native.Mathlib.Nat.{sub-eq-zero-of-le, add-zero}
 use native.Mathlib.Numerals.{add-one}
 use native.Mathlib.Omega.{arith}
 use lib.Dec.{eqb}
 use lib.ListN.{length, take, set, getD, length-set}
 use lib.Seq.{take-take, take-set-le, take-suc-set, getD-set-same}
-use borrow.Author.Tests.{eqb-true, eqb-false, eq-eqb, ne-eqb}
+use borrow.Author.Tests.{eqb-true, eqb-false, eq-eqb, ne-eqb, lt-ltb}
 use Rattle.lxtr_spec.specs.Ranges.{concatFrom}
 use Rattle.lxtr_spec.specs.Labels.{lengthCount, Pair}
 use Rattle.lxtr_spec.specs.Joining.{codeUnder}
-use Rattle.lxtr_spec.specs.Image.{slotCount, childCount, isLeaf, valueNumber, base, codeTo, offset, child, listWidth, labelCount, labelOfCode, labelAt}
-use Rattle.lxtr_spec.specs.Refusals.{ownCode}
+use Rattle.lxtr_spec.specs.Image.{slotCount, childCount, isLeaf, valueNumber, base, codeTo, offset, child, listWidth, labelCount, labelOfCode, labelAt, hasLeaf, hasParent, slotFrom}
+use Rattle.lxtr_spec.specs.Refusals.{ownCode, endExists}
 use Rattle.lxtr_spec.specs.Completions.{entryPairs, listFrom}
 use Rattle.lxtr_spec.specs.Sets.{InList}
 use Rattle.lxtr_laws.specs.Ranges.{more}
+use Rattle.lxtr_laws.specs.Tests.{not-is-true}
+use Rattle.lxtr_laws.specs.Joining.{slot-of-base, slot-by-code}
 use Rattle.lxtr_laws.specs.Facts.{Accepted}
 use Rattle.lxtr_laws.specs.Entries.{child-used, place-below, code-from, code-below}
 use Rattle.lxtr_complete.specs.Writing.{State, state, put, after, InRoom, PutReady, after-append, after-stopped, in-room-after}
@@ -79,6 +81,23 @@ module _ (b : List ℕ) (ok : Accepted b) (n : ℕ) (slot : n < slotCount b) whe
 
   later-inner : (j : ℕ) → InList b n j → offset b n < j → isLeaf b (child b j) ≡ false
   later-inner j place h = leaf-code j place ∙ ne-eqb (codeTo b n (child b j)) 0 (λ z. omega (arith, ok .lists .entry n j slot place .above h))
+
+  -- an end lies at the base, and the flag says so
+  pub no-flag : (l : Bool) → l ≡ hasLeaf b n → not l ≡ true → EndsOf b n 0
+  unfolding endExists hasParent
+  no-flag l is unset = record { within = omega (arith, ok .lists .rising n slot); first = λ z. absurd (z refl); inner = λ j place _. go j place (isLeaf b (child b j)) refl }
+    where
+      go : (j : ℕ) → InList b n j → (u : Bool) → isLeaf b (child b j) ≡ u → isLeaf b (child b j) ≡ false
+      go j place false e = e
+      go j place true e =
+          let u = child-used ok j (place-below ok n j slot place) in
+          let up = ok .lists .entry n j slot place .up in
+          let code : codeTo b n (child b j) ≡ 0 = eqb-true _ _ (sym (leaf-code j place) ∙ e) in
+          let at : base b n ≡ child b j = sym (slot-of-base b n) ∙ ap (slotFrom b n) (sym code) ∙ slot-by-code b n (child b j) in
+          let inner : isLeaf b n ≡ false = rw up at (ok .slots (child b j) (u .0) .used (u .1) .parent-inner) in
+          let there : endExists b n ≡ true = rw (inner, at, up, lt-ltb (child b j) (slotCount b) (u .0), eq-eqb n n refl) in
+          let from : n ≢ 0 = rw up at (u .1 .1) in
+          absurd (true≢false (sym there ∙ sym (ok .slots n slot .flag (omega arith)) ∙ sym is ∙ not-is-true l .0 unset))
 
   -- t is the offset behind the list
   module _ (f t : ℕ) (from : f ≡ offset b n) (to : t ≡ offset b (n + 1)) where

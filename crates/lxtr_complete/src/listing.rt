@@ -18,6 +18,7 @@ use lxtr_image::joining::code_under;
 use lxtr_image::lists::child_at;
 use lxtr_image::lists::offset_at;
 use lxtr_image::nodes::base_of;
+use lxtr_image::nodes::has_leaf;
 use lxtr_image::nodes::value_number;
 use lxtr_spec::LENGTH_COUNT;
 
@@ -43,12 +44,15 @@ fn entry_at(image: &[u8], base: u32, j: u32) -> Entry
 }
 
 // How many ends are in the list of slot n, 1 or 0. Codes rise along a list and that of an end is 0, so only the first entry can be
-// one.
+// one. The flag of the slot says it too, and is known sooner than the entry.
 fn ends_of(image: &[u8], n: u32) -> u32
     requires { ⌜ Accepted (now image) ⌝ }
     requires { ⌜ n < slotCount (now image) ⌝ }
     ensures { λ r. ⌜ EndsOf (now (image .entry)) n r ⌝ }
 {
+    if !has_leaf(image, n) {
+        return 0;
+    }
     let first = offset_at(image, n);
     if offset_at(image, n + 1) <= first {
         return 0;
