@@ -16,7 +16,7 @@ put-record-spec =
     (λ c. omega arith)
     (λ c. omega arith)
     (λ c. search needs)
-    (λ c. search record-not)
+    (λ c. record-not _ _ _ _ _ (c .before .before .pre) (omega arith))
     (λ c. search needs)
     (λ c. omega arith)
     (λ c. search needs)
