@@ -2,11 +2,12 @@
 use Prim.Native.Nat.{ℕ, _+_, _-_, _^_, _≤_, _<_}
 use mathlib.Core.Path.{_≡_, refl, sym, _∙_}
 use mathlib.Core.List.{List, [], _∷_}
-use mathlib.Core.Bool.{Bool, false}
+use mathlib.Core.Bool.{false}
 use native.Mathlib.Numerals.{add-one}
 use native.Mathlib.Omega.{arith}
 use lib.ListN.{length, take, set, getD, length-set}
 use lib.Seq.{take-suc, take-suc-set, take-length}
+use lib.Dec.{eqb}
 use borrow.Author.Tests.{lt-ltb, le-ltb}
 use Rattle.lxtr_spec.specs.Words.{beBytes}
 use Rattle.lxtr_spec.specs.Labels.{maxLabels, lengthCount, labelsOf}
@@ -50,28 +51,28 @@ module _ (xs path₀ : List ℕ) where
     pub path-end : m ≤ i → take (length xs) path ≡ xs
     path-end h = let e : i ≡ length xs = omega (arith, p .so-far) in rw e at (p .same) ∙ take-length xs
 
--- what the listing asks when it starts behind version and count, and what it answers: the path has the len labels xs at its front
-module _ (b xs : List ℕ) (n len : ℕ) (path room : List ℕ) (count : len ≡ length xs) where
-  pub list-ready : n < slotCount b → length xs ≤ maxLabels → length path ≡ lengthCount → 5 ≤ length room → ListReady b (lengthCount - len) n len path (state room 5 0 false)
-  list-ready slot allowed long enough =
-      record { slot-below = slot; labels-left = omega arith; path-long = omega arith; in-room = record { at-in = enough; count-in = omega arith }; going = refl }
+-- what the listing asks when it starts behind version and count, and what it answers: the path has the labels xs at its front
+module _ (b xs : List ℕ) (n m : ℕ) (path room : List ℕ) (allowed : length xs ≤ maxLabels) (count : m ≡ length xs) where
+  pub list-ready : n < slotCount b → length path ≡ lengthCount → 5 ≤ length room → ListReady b (lengthCount - m) n path room 5 0
+  list-ready slot long enough = record { slot-below = slot; labels-left = omega arith; path-long = long; at-in = enough; count-in = omega arith }
 
-  pub reached-done : (r : CompletionAnswer) → take (length xs) path ≡ xs → r ≡ written room (listFrom b (lengthCount - len) n (take len path)) → r ≡ written room (listFrom b (lengthCount - length xs) n xs)
-  reached-done r labels e = rw (count, labels) at e
+  pub reached-done : (r : CompletionAnswer) → take (length xs) path ≡ xs → r ≡ written room (listFrom b (lengthCount - m) n (take (lengthCount - (lengthCount - m)) path))
+      → r ≡ written room (listFrom b (lengthCount - length xs) n xs)
+  reached-done r labels e = let z : lengthCount - (lengthCount - m) ≡ length xs = omega arith in rw (z, labels, count) at e
 
 -- the listing that starts there: the room is r after the records, and r′ after version and count
-module _ (b : List ℕ) (left n len : ℕ) (path room : List ℕ) (ready : ListReady b left n len path (state room 5 0 false)) where
-  module _ (r : List ℕ) (at count : ℕ) (stopped : Bool) (listed : state r at count stopped ≡ after (state room 5 0 false) (listFrom b left n (take len path))) where
+module _ (b : List ℕ) (left n : ℕ) (path room : List ℕ) (ready : ListReady b left n path room 5 0) where
+  module _ (r : List ℕ) (at count : ℕ) (listed : state r at count ≡ after (state room 5 0) (listFrom b left n (take (lengthCount - left) path))) where
     pub count-fits : Accepted b → count < 2 ^ 32
-    count-fits a = omega (arith, list-few b a left n (take len path) (ready .slot-below) (omega (arith, ready .labels-left)), after-count room r (listFrom b left n (take len path)) at count stopped (ready .in-room .at-in) listed)
+    count-fits a = omega (arith, list-few b a left n (take (lengthCount - left) path) (ready .slot-below) (ready .labels-left), after-count room r (listFrom b left n (take (lengthCount - left) path)) at count (ready .at-in) listed)
 
-    pub written-all : (r′ : List ℕ) → r′ ≡ over r 0 (1 ∷ beBytes count) → completionAnswer 0 count stopped r′ ≡ written room (listFrom b left n (take len path))
-    written-all r′ e = written-done room r r′ (listFrom b left n (take len path)) at count stopped (ready .in-room .at-in) listed e
+    pub written-all : (r′ : List ℕ) → r′ ≡ over r 0 (1 ∷ beBytes count) → completionAnswer 0 count (eqb at 0) r′ ≡ written room (listFrom b left n (take (lengthCount - left) path))
+    written-all r′ e = written-done room r r′ (listFrom b left n (take (lengthCount - left) path)) at count (ready .at-in) listed e
 
 -- no pairs
 pub written-none : (room r : List ℕ) → 5 ≤ length room → r ≡ over room 0 (1 ∷ beBytes 0) → completionAnswer 0 0 false r ≡ written room []
 unfolding after
-written-none room r h e = written-done room room r [] 5 0 false h refl e
+written-none room r h e = written-done room room r [] 5 0 h refl e
 
 -- the pairs below the slot for which the walk answered f
 module _ (b xs room : List ℕ) (f : Found) (answer : found f ≡ walkWithin b xs) (r : CompletionAnswer) where

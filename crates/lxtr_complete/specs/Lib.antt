@@ -1,9 +1,8 @@
 -- What the code of completion computes, turn by turn. Of these a reader of its contracts, all of private functions, meets the
--- definitions that open Writing and Listing, and Progress.
+-- definitions that open Writing and Listing.
 pub mod Writing
 pub mod Written
 pub mod Sums
 pub mod Amounts
 pub mod Listing
 pub mod Completing
-pub mod Progress

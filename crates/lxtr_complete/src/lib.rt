@@ -5,7 +5,6 @@ mod listing; // the pairs below a slot
 
 ghost use mathlib.Core.Path.{_≡_};
 ghost use mathlib.Core.List.{[], _∷_};
-ghost use mathlib.Core.Bool.{false};
 ghost use Prim.Native.Nat.{_-_, _≤_, _<_};
 ghost use lib.ListN.{length, take};
 ghost use Rattle.lxtr_spec.specs.Words.{beBytes};
@@ -14,10 +13,8 @@ ghost use Rattle.lxtr_spec.specs.Image.{slotCount};
 ghost use Rattle.lxtr_spec.specs.Completions.{listFrom, pairsBelow, written, completionRefusal, completionOf};
 ghost use Rattle.lxtr_laws.specs.Facts.{Accepted};
 ghost use Rattle.lxtr_laws.specs.Overlays.{over};
-ghost use Rattle.lxtr_complete.specs.Writing.{state};
 ghost use Rattle.lxtr_complete.specs.Listing.{ListReady};
 use crate::listing::list_below;
-use crate::records::Progress;
 use lxtr_check::body_refusal;
 use lxtr_image::words::put_be32;
 use lxtr_search::query::label_at;
@@ -66,25 +63,27 @@ fn list_none(room: &mut [u8]) -> Completion
     }
 }
 
-// The listing of the pairs below slot n, whose labels are the first `len` of the path. The records go behind version and count,
-// which are written when the count is known.
-fn list_with_head(image: &[u8], n: u32, path: &mut [u32], len: usize, room: &mut [u8]) -> Completion
+// The listing of the pairs below slot n, with `left` more labels allowed behind the slot's, which are the first of the path. The
+// records go behind version and count, which are written when the count is known.
+fn list_with_head(
+    image: &[u8],
+    left: usize,
+    n: u32,
+    path: &mut [u32; LENGTH_COUNT],
+    room: &mut [u8],
+) -> Completion
     requires { ⌜ Accepted (now image) ⌝ }
-    requires { ⌜ ListReady (now image) (lengthCount - len) n len (now path) (state (now room) 5 0 false) ⌝ }
-    ensures { λ r. ⌜ record { answer = r; room = now (room .exit) } ≡ written (now (room .entry)) (listFrom (now (image .entry)) (lengthCount - len) n (take len (now (path .entry)))) ⌝ }
+    requires { ⌜ ListReady (now image) left n (now path) (now room) 5 0 ⌝ }
+    ensures { λ r. ⌜ record { answer = r; room = now (room .exit) } ≡ written (now (room .entry)) (listFrom (now (image .entry)) left n (take (lengthCount - left) (now (path .entry)))) ⌝ }
 {
-    let start = Progress {
-        at: HEAD_LENGTH,
-        count: 0,
-        stopped: false,
-    };
-    let end = list_below(image, LENGTH_COUNT - len, n, path, len, room, start);
-    let count = end.count as u32;
+    let mut records = 0;
+    let end = list_below(image, left, n, path, room, HEAD_LENGTH, &mut records);
+    let count = records as u32;
     put_head(room, count);
     Completion {
         refusal: 0,
         count,
-        stopped: end.stopped,
+        stopped: end == 0,
     }
 }
 
@@ -98,7 +97,7 @@ fn list_reached(image: &[u8], n: u32, query: &[u8], room: &mut [u8]) -> Completi
 {
     let mut path = [0u32; LENGTH_COUNT];
     fill_path(query, &mut path);
-    list_with_head(image, n, &mut path, label_count(query), room)
+    list_with_head(image, LENGTH_COUNT - label_count(query), n, &mut path, room)
 }
 
 // The listing of the pairs whose keys begin with the labels of the query; of none where these reach no slot.

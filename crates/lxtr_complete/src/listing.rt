@@ -1,87 +1,126 @@
 // Lists the pairs below a slot of an accepted image, each as a record in lent room. The labels on the way from slot 1 to the slot
 // are kept at the front of a lent path.
 ghost use mathlib.Core.Path.{_≡_};
-ghost use Prim.Native.Nat.{_<_};
+ghost use Prim.Native.Nat.{_-_, _<_};
 ghost use lib.ListN.{take};
-ghost use Rattle.lxtr_spec.specs.Image.{slotCount};
-ghost use Rattle.lxtr_spec.specs.Sets.{InList};
+ghost use Rattle.lxtr_spec.specs.Labels.{lengthCount};
+ghost use Rattle.lxtr_spec.specs.Image.{slotCount, childCount, child};
+ghost use Rattle.lxtr_spec.specs.Joining.{codeUnder};
 ghost use Rattle.lxtr_spec.specs.Completions.{listFrom};
+ghost use Rattle.lxtr_laws.specs.Passed.{Passed};
 ghost use Rattle.lxtr_laws.specs.Facts.{Accepted};
-ghost use Rattle.lxtr_complete.specs.Writing.{after};
-ghost use Rattle.lxtr_complete.specs.Listing.{EntryOf, ListReady};
-ghost use Rattle.lxtr_complete.specs.Progress.{stateAt};
-use crate::records::Progress;
+ghost use Rattle.lxtr_complete.specs.Writing.{state, after, PutReady};
+ghost use Rattle.lxtr_complete.specs.Listing.{CodeListed, EntryOf, EndsOf, endPairs, Kept, ListReady};
 use crate::records::put_record;
 use lxtr_image::code_map::label_at;
 use lxtr_image::joining::code_to;
+use lxtr_image::joining::code_under;
 use lxtr_image::lists::child_at;
 use lxtr_image::lists::offset_at;
-use lxtr_image::nodes::is_leaf;
+use lxtr_image::nodes::base_of;
+use lxtr_image::nodes::has_leaf;
 use lxtr_image::nodes::value_number;
+use lxtr_spec::LENGTH_COUNT;
 
-// An entry of a children list: the child, whether it is an end, and the value of an end or the label of any other child.
+// An entry of a children list that is no end: the child, and the label that leads to it.
 struct Entry {
     slot: u32,
-    leaf: bool,
-    word: u32,
+    label: u32,
 }
 
-// Entry j, which is in the list of slot n.
-fn entry_at(image: &[u8], n: u32, j: u32) -> Entry
-    requires { ⌜ Accepted (now image) ⌝ }
-    requires { ⌜ n < slotCount (now image) ⌝ }
-    requires { ⌜ InList (now image) n j ⌝ }
-    ensures { λ r. ⌜ EntryOf (now (image .entry)) n j (r .slot) (r .leaf) (r .word) ⌝ }
+// Entry j of the children array, which is in the list of a slot with this base.
+fn entry_at(image: &[u8], base: u32, j: u32) -> Entry
+    requires { ⌜ Passed (now image) ⌝ }
+    requires { ⌜ j < childCount (now image) ⌝ }
+    requires { ⌜ CodeListed (now image) (codeUnder base (child (now image) j)) ⌝ }
+    ensures { λ r. ⌜ EntryOf (now (image .entry)) base j (r .slot) (r .label) ⌝ }
 {
     let slot = child_at(image, j);
-    if is_leaf(image, slot) {
-        return Entry {
-            slot,
-            leaf: true,
-            word: value_number(image, slot),
-        };
-    }
-    let code = code_to(image, n, slot);
+    let code = code_under(base, slot);
     Entry {
         slot,
-        leaf: false,
-        word: label_at(image, code - 1),
+        label: label_at(image, code - 1),
     }
 }
 
-// The pairs below slot n, whose labels are the first `len` of the path, with `left` more labels allowed. Places of the path
-// from `len` on are used for the labels further down.
+// How many ends are in the list of slot n, 1 or 0. Codes rise along a list and that of an end is 0, so only the first entry can be
+// one. The flag of the slot says it too, and is known sooner than the entry.
+fn ends_of(image: &[u8], n: u32) -> u32
+    requires { ⌜ Accepted (now image) ⌝ }
+    requires { ⌜ n < slotCount (now image) ⌝ }
+    ensures { λ r. ⌜ EndsOf (now (image .entry)) n r ⌝ }
+{
+    if !has_leaf(image, n) {
+        return 0;
+    }
+    let first = offset_at(image, n);
+    if offset_at(image, n + 1) <= first {
+        return 0;
+    }
+    if code_to(image, n, child_at(image, first)) != 0 {
+        return 0;
+    }
+    1
+}
+
+// The pair of the end in the list of slot n, if there is one. The labels of the slot are the first `len` of the path.
+fn list_end(
+    image: &[u8],
+    n: u32,
+    ends: u32,
+    path: &mut [u32; LENGTH_COUNT],
+    len: usize,
+    room: &mut [u8],
+    at: usize,
+    count: &mut usize,
+) -> usize
+    requires { ⌜ Accepted (now image) ⌝ }
+    requires { ⌜ n < slotCount (now image) ⌝ }
+    requires { ⌜ EndsOf (now image) n ends ⌝ }
+    requires { ⌜ PutReady len (now path) (now room) at (now count) ⌝ }
+    ensures { λ r. ⌜ state (now (room .exit)) r (now (count .exit)) ≡ after (state (now (room .entry)) at (now (count .entry))) (endPairs (now (image .entry)) n ends (take len (now (path .entry)))) ⌝ }
+    ensures { λ _. ⌜ Kept len (now (path .entry)) (now (path .exit)) ⌝ }
+{
+    if ends == 0 {
+        return at;
+    }
+    path[len] = value_number(image, child_at(image, offset_at(image, n)));
+    put_record(path, len, room, at, count)
+}
+
+// The pairs below slot n, with `left` more labels allowed behind the first of the path, which are the slot's. The other places of
+// the path are used for the labels further down. The first record goes to `at`; the answer is where the next one goes, or 0 if one
+// had no room.
 pub fn list_below(
     image: &[u8],
     left: usize,
     n: u32,
-    path: &mut [u32],
-    len: usize,
+    path: &mut [u32; LENGTH_COUNT],
     room: &mut [u8],
-    from: Progress,
-) -> Progress
+    at: usize,
+    count: &mut usize,
+) -> usize
     requires { ⌜ Accepted (now image) ⌝ }
-    requires { ⌜ ListReady (now image) left n len (now path) (stateAt (now room) from) ⌝ }
-    ensures { λ r. ⌜ stateAt (now (room .exit)) r ≡ after (stateAt (now (room .entry)) from) (listFrom (now (image .entry)) left n (take len (now (path .entry)))) ⌝ }
-    ensures { λ _. ⌜ take len (now (path .exit)) ≡ take len (now (path .entry)) ⌝ }
+    requires { ⌜ ListReady (now image) left n (now path) (now room) at (now count) ⌝ }
+    ensures { λ r. ⌜ state (now (room .exit)) r (now (count .exit)) ≡ after (state (now (room .entry)) at (now (count .entry))) (listFrom (now (image .entry)) left n (take (lengthCount - left) (now (path .entry)))) ⌝ }
+    ensures { λ _. ⌜ Kept (lengthCount - left) (now (path .entry)) (now (path .exit)) ⌝ }
 {
     if left == 0 {
-        return from;
+        return at;
     }
+    let len = LENGTH_COUNT - left;
+    let base = base_of(image, n);
     let end = offset_at(image, n + 1);
-    let mut j = offset_at(image, n);
-    let mut here = from;
+    let ends = ends_of(image, n);
+    let mut j = offset_at(image, n) + ends;
+    let mut here = list_end(image, n, ends, path, len, room, at, count);
     while j < end {
-        let entry = entry_at(image, n, j);
-        if entry.leaf {
-            here = put_record(path, len, entry.word, room, here);
-        } else {
-            path[len] = entry.word;
-            here = list_below(image, left - 1, entry.slot, path, len + 1, room, here);
+        if here == 0 {
+            return 0;
         }
-        if here.stopped {
-            return here;
-        }
+        let entry = entry_at(image, base, j);
+        path[len] = entry.label;
+        here = list_below(image, left - 1, entry.slot, path, room, here, count);
         j += 1;
     }
     here

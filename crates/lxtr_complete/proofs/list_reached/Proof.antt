@@ -13,8 +13,8 @@ list-reached-spec =
     (tie.spec
     (λ c. search needs)
     (λ c κs. omega arith)
-    (λ c. search needs)
     (λ c κs. search needs)
+    (λ c. omega arith)
     (λ c κs. (search needs, search list-ready))
     (λ c. search needs)
     (λ c. search reached-done))

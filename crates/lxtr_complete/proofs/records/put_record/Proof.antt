@@ -1,24 +1,28 @@
--- A record that does not fit stops the listing; one that fits is laid down, the value behind the key.
+-- A record that does not fit stops the listing; one that fits is laid down.
 use borrow.Author.Needs.{needs}
+use mathlib.Core.Path.{_∙_}
 use native.Mathlib.Omega.{arith}
+use lib.ListN.{length-set}
+use Rattle.lxtr_spec.specs.Labels.{maxLabels}
 use Rattle.lxtr_complete.specs.Writing.{record-in, record-not}
 use Rattle.lxtr_complete.proofs.records.put_record.Statement.{statement}
 use Rattle.lxtr_complete.proofs.records.put_record.Tie as tie
 
 pub put-record-spec : {M : Type 1} → statement M
+unfolding maxLabels
 put-record-spec =
     tie.close
     (tie.spec
+    (λ c. omega arith)
+    (λ c. omega arith)
+    (λ c. search needs)
+    (λ c. record-not _ _ _ _ _ (c .before .before .pre) (omega arith))
+    (λ c. search needs)
+    (λ c. omega arith)
     (λ c. search needs)
     (λ c. search needs)
     (λ c. search needs)
-    (λ c. record-not _ _ _ _ _ _ _ (c .before .before .before .pre) (omega arith))
-    (λ c κs. search needs)
+    (λ c κs. (omega arith, (omega arith, simp length-set (omega arith))))
     (λ c. search needs)
-    (λ c. search needs)
-    (λ c. search needs)
-    (λ c κs. search needs)
-    (λ c. search needs)
-    (λ c. search needs)
-    (λ c. search needs)
-    (λ c. search (record-in, c .before .before .before .before .before .before .before .before .before .before .before .before .pre, c .before .before .before .before .before .before .before .put-key .ensures, c .before .before .before .put-be32 .ensures)))
+    (λ c. let a = c .before .before .before .before .before .before .before .args in c .before .before .put-words .kept .1 .1 .0 ∙ length-set (a .room .now) (a .at) (a .len))
+    (λ c. search record-in))

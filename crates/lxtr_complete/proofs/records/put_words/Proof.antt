@@ -1,14 +1,15 @@
--- Invariant: the first i labels are in the room. Each turn lays one more behind them.
+-- Invariant: the first i words are in the room. Each turn lays one more behind them.
 use borrow.Author.Needs.{needs}
 use Prim.Native.Nat.{_-_, _≤_}
 use mathlib.Core.Path.{_≡_}
 use native.Mathlib.Omega.{arith}
 use lib.ListN.{length}
 use Rattle.lxtr_spec.specs.Words.{beWords}
+use Rattle.lxtr_spec.specs.Labels.{maxLabels}
 use Rattle.lxtr_laws.specs.ByteOrders.{big}
 use Rattle.lxtr_laws.specs.Overlays.{WordsIn, words-start, words-next, words-end}
-use Rattle.lxtr_complete.proofs.records.put_labels.Statement.{statement}
-use Rattle.lxtr_complete.proofs.records.put_labels.Tie as tie
+use Rattle.lxtr_complete.proofs.records.put_words.Statement.{statement}
+use Rattle.lxtr_complete.proofs.records.put_words.Tie as tie
 
 abbrev Inv-loop : tie.InvT-loop
 Inv-loop path len room₀ at i₀ room i = (i ≤ len) × (length room ≡ length room₀) × WordsIn beWords room₀ path at i room
@@ -16,8 +17,9 @@ Inv-loop path len room₀ at i₀ room i = (i ≤ len) × (length room ≡ lengt
 abbrev μ-loop : tie.MeasureT-loop
 μ-loop path len room₀ at i₀ room i = len - i
 
-pub put-labels-spec : {M : Type 1} → statement M
-put-labels-spec =
+pub put-words-spec : {M : Type 1} → statement M
+unfolding maxLabels
+put-words-spec =
     tie.close
     (tie.spec
     Inv-loop
