@@ -12,7 +12,7 @@ use lib.Dec.{eqb}
 use mir.Syntax.{w32}
 use mir.Val.{Fits}
 use borrow.Author.Needs.{fits-under}
-use Rattle.lxtr_spec.specs.Image.{labelCount, labelAt, codeFrom, codeOf}
+use Rattle.lxtr_spec.specs.Image.{labelAt, codeFrom}
 
 abbrev pub blockSize : ℕ
 blockSize = 64
