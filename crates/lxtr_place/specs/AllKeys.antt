@@ -1,12 +1,12 @@
 -- All keys pass slot 1: their group may be placed in cleared work, and placing it is what the definitions say of the key list.
-use Prim.Native.Nat.{ℕ, zero, suc, _+_}
+use Prim.Native.Nat.{ℕ, zero, suc, _+_, _≤_}
 use mathlib.Core.Path.{_≡_, refl, ap, _∙_}
 use mathlib.Core.List.{List, _∷_}
 use mathlib.Core.Option.{Option}
 use native.Mathlib.Omega.{arith}
 use lib.ListN.{length}
 use Rattle.lxtr_spec.specs.Labels.{lengthCount, Pair}
-use Rattle.lxtr_spec.specs.KeyLists.{keysAt, keyCount, nextKey, keyAt, keysFrom, pairsOf}
+use Rattle.lxtr_spec.specs.KeyLists.{keysAt, maxKeys, keyCount, nextKey, keyAt, keysFrom, pairsOf}
 use Rattle.lxtr_spec.specs.CodeMaps.{mapOf, codeIn, labelWith}
 use Rattle.lxtr_spec.specs.Placing.{checkAt, place}
 use Rattle.lxtr_spec.specs.Builds.{slotsIn, placedIn}
@@ -41,6 +41,10 @@ module _ (b : List ℕ) (n : ℕ) (e : n ≡ keyCount b) where
     ascending = rw all-pairs (k .right .ascending);
     codes-in = rw all-pairs (codes-in (pairsOf b) labels codes order t);
   }
+
+-- the room has a place for each of them, and one for each label of a key
+pub room-enough : (b room : List ℕ) (n : ℕ) → KeysPassed b → n ≡ keyCount b → length room ≡ maxKeys + lengthCount → n + lengthCount ≤ length room
+room-enough b room n k e l = omega (arith, k .few)
 
 -- slot 1 of cleared work may be gone into
 module _ (w : List ℕ) (clear : Cleared w) where

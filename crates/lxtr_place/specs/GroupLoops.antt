@@ -33,6 +33,16 @@ module _ (b : List ℕ) (at d x len : ℕ) (e : len ≡ keyLength b at) where
   unfolding goesBy
   goes-on y h q = ap (λ (z : ℕ). eqb z x) q ∙ sym (ap (goesBy x) (key-goes b at d (omega arith)))
 
+-- ---- a group's keys
+
+keys-count : (b : List ℕ) (d n i at : ℕ) → n ≡ length (groupFrom b d n i at)
+unfolding groupFrom
+keys-count b d zero i at = refl
+keys-count b d (suc n) i at = ap suc (keys-count b d n (i + 1) (nextKey b at))
+
+pub group-size : (b : List ℕ) (g : Group) → g .count ≡ length (groupOf b g)
+group-size b g = keys-count b (g .depth) (g .count) (g .first) (g .at)
+
 -- ---- what a loop has left of a group after i keys, where the next one starts at a place
 
 abbrev pub left : List ℕ → Group → ℕ → ℕ → List Pair

@@ -20,6 +20,10 @@ use crate::slots::slots_in;
 use lxtr_keys::KEYS_AT;
 use lxtr_keys::key_count;
 use lxtr_spec::LENGTH_COUNT;
+use lxtr_spec::MAX_KEYS;
+
+// Room for the codes of the children of all slots on the way to a slot. Each code but one at each slot leaves a key behind.
+const ROOM: usize = MAX_KEYS + LENGTH_COUNT;
 
 // Places all keys, which pass slot 1, with the tables of their code map. Answers whether each slot had a base.
 pub fn place_all(
@@ -41,6 +45,7 @@ pub fn place_all(
         depth: 0,
     };
     let slots = slots_in(work.len());
+    let mut room = [0u32; ROOM];
     place(
         keys,
         labels,
@@ -48,6 +53,7 @@ pub fn place_all(
         order,
         work,
         slots,
+        &mut room,
         LENGTH_COUNT,
         1,
         all,
