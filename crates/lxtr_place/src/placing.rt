@@ -9,7 +9,7 @@ ghost use Rattle.lxtr_spec.specs.Placing.{endValue};
 ghost use Rattle.lxtr_build_laws.specs.KeyLists.{Ascending};
 ghost use Rattle.lxtr_build_laws.specs.CodeTables.{codeBy, labelBy, CodeTables};
 ghost use Rattle.lxtr_build_laws.specs.Work.{placedAs};
-ghost use Rattle.lxtr_place.specs.Groups.{groupOf, Grouped, Placeable};
+ghost use Rattle.lxtr_place.specs.Groups.{groupOf, Grouped, Indexed, Placeable, Lent};
 ghost use Rattle.lxtr_place.specs.Settling.{settledAs};
 ghost use Rattle.lxtr_place.specs.Children.{Fresh};
 use crate::codes::child_codes;
@@ -39,23 +39,32 @@ fn settle_group(
 }
 
 // The group of g's child by a code from 1 up, whose label the tables give.
-fn child_group(keys: &[u8], labels: &[u32], order: &[u32], g: Group, code: u32) -> Group
-    requires { ⌜ Grouped (now keys) g ⌝ }
+fn child_group(
+    keys: &[u8],
+    starts: &[u32],
+    labels: &[u32],
+    order: &[u32],
+    g: Group,
+    code: u32,
+) -> Group
+    requires { ⌜ Grouped (now keys) g × Indexed (now keys) (now starts) g ⌝ }
     requires { ⌜ Ascending (groupOf (now keys) g) ⌝ }
     requires { ⌜ g .depth < lengthCount ⌝ }
     requires { ⌜ (1 ≤ code) × (code ≤ length (now order)) ⌝ }
     requires { ⌜ getD (now order) (code - 1) 0 < length (now labels) ⌝ }
     ensures { λ r. ⌜ Grouped (now (keys .entry)) r ⌝ }
     ensures { λ r. ⌜ r .depth ≡ g .depth + 1 ⌝ }
+    ensures { λ r. ⌜ Indexed (now (keys .entry)) (now (starts .entry)) r ⌝ }
     ensures { λ r. ⌜ groupOf (now (keys .entry)) r ≡ Placing.below (labelBy (now (labels .entry)) (now (order .entry)) code) (groupOf (now (keys .entry)) g) ⌝ }
 {
-    below(keys, g, labels[order[code as usize - 1] as usize])
+    below(keys, starts, g, labels[order[code as usize - 1] as usize])
 }
 
 // Places slot p's group and all below it, with `left` labels still allowed. Answers whether each slot had a base. The codes of p's
 // children stand at the front of the room while they are gone into; behind them is the room for those further down.
 pub fn place(
     keys: &[u8],
+    starts: &[u32],
     labels: &[u32],
     codes: &[u32],
     order: &[u32],
@@ -70,7 +79,7 @@ pub fn place(
     requires { ⌜ Placeable (now keys) (now labels) (now codes) g ⌝ }
     requires { ⌜ Fresh slots (now work) p ⌝ }
     requires { ⌜ left + g .depth ≡ lengthCount ⌝ }
-    requires { ⌜ g .count + left ≤ length (now room) ⌝ }
+    requires { ⌜ Lent (now keys) (now starts) g left (now room) ⌝ }
     ensures { λ r. ⌜ placedAs r (now (work .exit)) ≡ Placing.place slots (codeBy (now (labels .entry)) (now (codes .entry))) (labelBy (now (labels .entry)) (now (order .entry))) left p (groupOf (now (keys .entry)) g) (now (work .entry)) ⌝ }
 {
     if left == 0 {
@@ -86,9 +95,10 @@ pub fn place(
         let code = room[j];
         if code != 0 {
             let t = slot_under(base, code);
-            let child = child_group(keys, labels, order, g, code);
+            let child = child_group(keys, starts, labels, order, g, code);
             if !place(
                 keys,
+                starts,
                 labels,
                 codes,
                 order,
