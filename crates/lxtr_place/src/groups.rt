@@ -29,7 +29,7 @@ fn wide(place: u32) -> usize
 }
 
 // Whether the key at a place goes on by label x after `depth` labels.
-fn goes_by(keys: &[u8], at: usize, depth: usize, x: u32) -> bool
+pub fn goes_by(keys: &[u8], at: usize, depth: usize, x: u32) -> bool
     requires { ⌜ WholeKey (now keys) at ⌝ }
     ensures { λ r. ⌜ r ≡ goesBy x (drop depth (keyAt (now (keys .entry)) at)) ⌝ }
 {
