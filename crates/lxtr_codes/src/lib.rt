@@ -2,7 +2,7 @@
 // of the codes.
 mod labels; // the labels
 mod counts; // how many keys contain each
-mod near; // a label looked up by a guess
+pub mod near; // a label looked up by a guess, also in the crate above
 mod ranks; // their order and their codes
 pub mod rising; // rising numbers: the labels here, and the codes of a slot's children in the crate above
 

@@ -17,7 +17,7 @@ use lib.Dec.{eqb, ltb}
 use lib.ListN.{getD, length, take, drop}
 use lib.Seq.{drop-drop}
 use Rattle.lxtr_spec.specs.Labels.{lengthCount, valueLimit, Pair}
-use Rattle.lxtr_spec.specs.KeyLists.{maxKeys, keyLength, keyLabel, nextKey, keyAt}
+use Rattle.lxtr_spec.specs.KeyLists.{keyLength, keyLabel, nextKey, keyAt}
 use Rattle.lxtr_spec.specs.Placing.{below, endValue}
 use Rattle.lxtr_laws.specs.Ranges.{more}
 use Rattle.lxtr_build_laws.specs.KeyLists.{WholeKey, WholeKeys, Ascending}

@@ -66,6 +66,7 @@ pub fn place(
     keys: &[u8],
     starts: &[u32],
     labels: &[u32],
+    near: &[u32],
     codes: &[u32],
     order: &[u32],
     work: &mut [u32],
@@ -85,7 +86,7 @@ pub fn place(
     if left == 0 {
         return true;
     }
-    let count = child_codes(keys, g, labels, codes, room);
+    let count = child_codes(keys, g, labels, near, codes, room);
     let fit = settle_group(keys, work, slots, p, g, &room[..count]);
     let Found::Is(base) = fit else {
         return false;
@@ -100,6 +101,7 @@ pub fn place(
                 keys,
                 starts,
                 labels,
+                near,
                 codes,
                 order,
                 work,

@@ -29,14 +29,14 @@ use Rattle.lxtr_place.proofs.placing.settle_group.Reads as settle-group
 use Rattle.lxtr_place.proofs.placing.+place.{statement}
 use Rattle.lxtr_place.proofs.placing.+place.Tie.{close}
 
-abbrev μ-place : Measures 7 place-kinds.ps ℕ
-μ-place κs a = a .1 .1 .1 .1 .1 .1 .1 .1 .0
+abbrev μ-place : Measures 8 place-kinds.ps ℕ
+μ-place κs a = a .1 .1 .1 .1 .1 .1 .1 .1 .1 .0
 
-abbrev at : ℕ → In 7 place-kinds.ps
-at t = and 7 place-kinds.ps (is 7 place-kinds.ps μ-place t) place.Pre
+abbrev at : ℕ → In 8 place-kinds.ps
+at t = and 8 place-kinds.ps (is 8 place-kinds.ps μ-place t) place.Pre
 
-abbrev below : ℕ → In 7 place-kinds.ps
-below t = and 7 place-kinds.ps (falls 7 place-kinds.ps _<_ μ-place t) place.Pre
+abbrev below : ℕ → In 8 place-kinds.ps
+below t = and 8 place-kinds.ps (falls 8 place-kinds.ps _<_ μ-place t) place.Pre
 
 -- what the callees ask and say
 abbrev told : ℕ → lts.Claims
@@ -54,21 +54,21 @@ told t = (
 )
 
 abbrev Inv : lts.InvT-loop
-Inv keys starts labels codes order work₀ slots room₀ left p g count base j₀ work room j =
+Inv keys starts labels near codes order work₀ slots room₀ left p g count base j₀ work room j =
     Going slots (codeBy labels codes) (labelBy labels order) left (groupOf keys g) count base work₀ room₀ room j work
 
 abbrev μ : lts.MeasureT-loop
-μ keys starts labels codes order work₀ slots room₀ left p g count base j₀ work room j = count - j
+μ keys starts labels near codes order work₀ slots room₀ left p g count base j₀ work room j = count - j
 
 module _ (t : ℕ) where
   -- what the loop starts from
   started : (l : lts.After-known-told (told t) (at t) place.Post Inv μ) →
-      let a = l .before .before .before .before .before .before .before .before .before .before .before .before .before .before .before .before .before .before .before .before .args in
+      let a = l .before .before .before .before .before .before .before .before .before .before .before .before .before .before .before .before .before .before .before .before .before .args in
       Started (a .slots) (codeBy (a .labels .now) (a .codes .now)) (labelBy (a .labels .now) (a .order .now)) (a .left) (groupOf (a .keys .now) (a .g))
       (length (a .labels .now)) (a .p) (a .work .now) (l .before .fit .given .0 .0) (l .before .before .before .before .before .settle-group .last .1 .0)
   unfolding maxLabels
   started l =
-      let s = l .before .before .before .before .before .before .before .before .before .before .before .before .before .before .before .before .before .before .before .before in
+      let s = l .before .before .before .before .before .before .before .before .before .before .before .before .before .before .before .before .before .before .before .before .before in
       start _ _ _ _ _ _ _ _ _ _ (l .before .before .before .before .before .before .before .before .before .before .child-codes .ensures .1) (l .before .before .before .before .before .settle-group .ensures) (l .before .before .before .before .before .before .before .before .before .before .before .before .if1 .left) _ _ (l .before .fit .given .1) (s .pre .1 .1 .1 .0) (s .pre .1 .1 .0 .codes-in)
 
 -- an index into the room, as bytes
@@ -86,21 +86,21 @@ unfolding maxLabels
 +place-spec =
     close μ-place λ t. lts.spec (told t) (at t) place.Post Inv μ
     (λ c. search no-label-left)
-    (λ c κs. let p = c .before .before .before .before .before .before .before .before .before .pre .1 in (p .1 .0, (p .0 .rising, omega (arith, p .1 .1 .1 .1 .long))))
+    (λ c κs. let p = c .before .before .before .before .before .before .before .before .before .before .pre .1 in (p .1 .0, (p .0 .rising, omega (arith, p .1 .1 .1 .1 .long))))
     (λ c. search needs)
     (λ c. search front-size)
-    (λ c κs. let p = c .before .before .before .before .before .before .before .before .before .before .before .before .before .before .pre .1 in (p .1 .0 .grouped, (p .1 .0 .ascending, (p .1 .1 .0 .ready .room, p .1 .1 .0 .ready .to))))
+    (λ c κs. let p = c .before .before .before .before .before .before .before .before .before .before .before .before .before .before .before .pre .1 in (p .1 .0 .grouped, (p .1 .0 .ascending, (p .1 .1 .0 .ready .room, p .1 .1 .0 .ready .to))))
     (λ c. search needs)
     (λ c. search needs)
     (λ c. search needs)
     (λ c. search needs)
     (λ c. search none-fits)
-    (λ c. going-start (started t c) (few-codes (c .before .before .before .before .before .before .before .before .before .before .before .before .before .before .before .before .before .before .before .before .pre .1 .1 .0 .grouped) (c .before .before .before .before .before .before .before .before .before .before .child-codes .ensures .0)) (omega (arith, c .before .before .before .before .before .before .before .before .before .before .child-codes .ensures .0, c .before .before .before .before .before .before .before .before .before .before .child-codes .kept .1 .1 .1 .1 .0, c .before .before .before .before .before .before .before .before .before .before .before .before .before .before .before .before .before .before .before .before .pre .1 .1 .1 .1 .1 .long)) (c .before .before .before .before .before .before .before .before .before .before .child-codes .ensures .1))
+    (λ c. going-start (started t c) (few-codes (c .before .before .before .before .before .before .before .before .before .before .before .before .before .before .before .before .before .before .before .before .before .pre .1 .1 .0 .grouped) (c .before .before .before .before .before .before .before .before .before .before .child-codes .ensures .0)) (omega (arith, c .before .before .before .before .before .before .before .before .before .before .child-codes .ensures .0, c .before .before .before .before .before .before .before .before .before .before .child-codes .kept .1 .1 .1 .1 .1 .0, c .before .before .before .before .before .before .before .before .before .before .before .before .before .before .before .before .before .before .before .before .before .pre .1 .1 .1 .1 .1 .long)) (c .before .before .before .before .before .before .before .before .before .before .child-codes .ensures .1))
     (λ c. scaled (c .before .loop .inv) (omega (arith, c .loop-test .taken)))
     (λ c. omega (arith, c .before .loop-test .taken, c .before .before .loop .inv .few, c .before .before .loop .inv .size))
     (λ c κs. search needs)
     (λ c κs.
-    let p = c .before .before .before .before .before .before .before .before .before .before .before .before .before .before .before .before .before .before .before .before .before .before .before .before .before .pre .1 in
+    let p = c .before .before .before .before .before .before .before .before .before .before .before .before .before .before .before .before .before .before .before .before .before .before .before .before .before .before .pre .1 in
     let small = turn-small (started t (c .before .before .before .before .before)) (c .before .before .before .before .loop .inv) (c .before .before .before .loop-test .taken) refl in (
       (p .1 .0 .grouped, p .1 .1 .1 .1 .indexed),
       (
@@ -117,14 +117,14 @@ unfolding maxLabels
     (λ c. omega arith)
     (λ c. omega (arith, started t (c .before .before .before .before .before .before .before .before) .some-left))
     (λ c κs.
-    let s = c .before .before .before .before .before .before .before .before .before .before .before .before .before .before .before .before .before .before .before .before .before .before .before .before .before .before .before .before in
+    let s = c .before .before .before .before .before .before .before .before .before .before .before .before .before .before .before .before .before .before .before .before .before .before .before .before .before .before .before .before .before in
     let l = started t (c .before .before .before .before .before .before .before .before) in
     let g = c .before .before .before .before .before .before .before .loop .inv in
     let h = c .before .before .before .before .before .before .loop-test .taken in
     let child = c .before .before .child-group .ensures in
-    (omega (arith, s .pre .0, l .some-left), (s .pre .1 .0, (child-placeable _ _ _ _ _ _ (s .pre .1 .1 .0) (child .0) (child .1 .1 .1), (turn-fresh l g h refl (c .before .before .before .slot-under .ensures), (omega (arith, s .pre .1 .1 .1 .1 .0, child .1 .0, l .some-left), record { indexed = child .1 .1 .0; long = turn-room l g h refl (c .before .before .before .slot-under .ensures) _ _ _ (group-size _ (s .args .g)) (group-size _ (c .before .before .child-group .result)) (child .1 .1 .1) (omega (arith, s .pre .1 .1 .1 .1 .1 .long, c .before .before .before .before .before .before .before .before .before .before .before .before .before .before .before .before .before .before .child-codes .kept .1 .1 .1 .1 .0)) }))))))
-    (λ c. c .before .before .before .before .before .place .kept .1 .1 .1 .1 .1 .0 ∙ going-size (started t (c .before .before .before .before .before .before .before .before .before .before .before .before .before .before)) (c .before .before .before .before .before .before .before .before .before .before .before .before .before .loop .inv))
-    (λ c. c .before .before .room2 .given .1 ∙ c .before .before .before .before .before .before .before .before .before .before .before .before .before .loop .inv .size ∙ c .before .before .before .before .before .before .before .before .before .before .before .before .before .before .before .before .before .before .before .before .before .before .before .before .child-codes .kept .1 .1 .1 .1 .0)
+    (omega (arith, s .pre .0, l .some-left), (s .pre .1 .0, (child-placeable _ _ _ _ _ _ (s .pre .1 .1 .0) (child .0) (child .1 .1 .1), (turn-fresh l g h refl (c .before .before .before .slot-under .ensures), (omega (arith, s .pre .1 .1 .1 .1 .0, child .1 .0, l .some-left), record { indexed = child .1 .1 .0; long = turn-room l g h refl (c .before .before .before .slot-under .ensures) _ _ _ (group-size _ (s .args .g)) (group-size _ (c .before .before .child-group .result)) (child .1 .1 .1) (omega (arith, s .pre .1 .1 .1 .1 .1 .long, c .before .before .before .before .before .before .before .before .before .before .before .before .before .before .before .before .before .before .child-codes .kept .1 .1 .1 .1 .1 .0)) }))))))
+    (λ c. c .before .before .before .before .before .place .kept .1 .1 .1 .1 .1 .1 .0 ∙ going-size (started t (c .before .before .before .before .before .before .before .before .before .before .before .before .before .before)) (c .before .before .before .before .before .before .before .before .before .before .before .before .before .loop .inv))
+    (λ c. c .before .before .room2 .given .1 ∙ c .before .before .before .before .before .before .before .before .before .before .before .before .before .loop .inv .size ∙ c .before .before .before .before .before .before .before .before .before .before .before .before .before .before .before .before .before .before .before .before .before .before .before .before .child-codes .kept .1 .1 .1 .1 .1 .0)
     (λ c. turn-refused (started t (c .before .before .before .before .before .before .before .before .before .before .before .before .before .before)) (c .before .before .before .before .before .before .before .before .before .before .before .before .before .loop .inv) (c .before .before .before .before .before .before .before .before .before .before .before .before .loop-test .taken) refl (c .before .before .before .before .before .before .before .before .before .slot-under .ensures) (c .before .before .before .before .before .before .before .before .before .before .if2 .taken) (c .before .before .before .before .before .before .before .before .child-group .ensures .1 .1 .1) _ _ (c .before .before .before .before .before .place .ensures) (c .if3 .taken) _)
     (λ c. counted (c .before .before .before .loop .inv) (c .before .before .loop-test .taken))
     (λ c. omega (arith, c .before .before .loop-test .taken))
@@ -137,5 +137,5 @@ unfolding maxLabels
     (λ w. turn-past l g h refl (w .0 .left) _ _ (w .2) (w .1))
     (c .if2 .came))
     (λ c. going-size (started t (c .before .before)) (c .before .loop .inv))
-    (λ c. c .before .loop .inv .size ∙ c .before .before .before .before .before .before .before .before .before .before .before .before .child-codes .kept .1 .1 .1 .1 .0)
+    (λ c. c .before .loop .inv .size ∙ c .before .before .before .before .before .before .before .before .before .before .before .before .child-codes .kept .1 .1 .1 .1 .1 .0)
     (λ c. going-end (started t (c .before .before)) (c .before .loop .inv) (c .loop-test .left))
