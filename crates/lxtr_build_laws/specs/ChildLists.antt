@@ -44,7 +44,7 @@ abbrev pub CodeBelow : ℕ → ℕ → ℕ → Type 0
 CodeBelow base s t = codeUnder base s < codeUnder base t
 
 module _ (w : List ℕ) (N p : ℕ) where
-  child-is : (t : ℕ) → (isChild w N p t ≡ true) ↔ Child w N p t
+  pub child-is : (t : ℕ) → (isChild w N p t ≡ true) ↔ Child w N p t
   unfolding isChild
   child-is t = (λ e. let ((from, to), of) = simp tests at e in record { from = from; to = to; of = of }, λ k. simp tests ((k .from, k .to), k .of))
 

@@ -1,23 +1,30 @@
 -- All keys pass slot 1: their group may be placed in cleared work, and placing it is what the definitions say of the key list.
-use Prim.Native.Nat.{ℕ, zero, suc, _+_}
-use mathlib.Core.Path.{_≡_, refl, ap, _∙_}
+use Prim.Native.Nat.{ℕ, zero, suc, _+_, _*_, _-_, _^_, _≤_, _<_}
+use mathlib.Core.Path.{_≡_, refl, sym, ap, _∙_, subst}
 use mathlib.Core.List.{List, _∷_}
 use mathlib.Core.Option.{Option}
+use native.Mathlib.Nat.{sub-zero, zero-add}
+use native.Mathlib.Decide.{ℕ-discrete}
 use native.Mathlib.Omega.{arith}
-use lib.ListN.{length}
-use Rattle.lxtr_spec.specs.Labels.{lengthCount, Pair}
-use Rattle.lxtr_spec.specs.KeyLists.{keysAt, keyCount, nextKey, keyAt, keysFrom, pairsOf}
+use mir.Syntax.{w32}
+use mir.Val.{Fits}
+use borrow.Author.Needs.{fits-under}
+use lib.ListN.{getD, length, set, length-set}
+use lib.Seq.{getD-set-same, getD-set-other}
+use Rattle.lxtr_spec.specs.Labels.{maxLabels, lengthCount, Pair}
+use Rattle.lxtr_spec.specs.KeyLists.{keysAt, maxKeys, keyCount, nextKey, keyAt, keysFrom, pairsOf}
 use Rattle.lxtr_spec.specs.CodeMaps.{mapOf, codeIn, labelWith}
 use Rattle.lxtr_spec.specs.Placing.{checkAt, place}
 use Rattle.lxtr_spec.specs.Builds.{slotsIn, placedIn}
-use Rattle.lxtr_build_laws.specs.KeyLists.{KeysPassed}
+use Rattle.lxtr_build_laws.specs.KeyLists.{WholeKeys, KeysPassed}
 use Rattle.lxtr_build_laws.specs.CodeTables.{codeBy, labelBy, CodeTables}
+use Rattle.lxtr_build_laws.specs.Keys.{whole-here, whole-on, key-starts}
 use Rattle.lxtr_build_laws.specs.Work.{Cleared}
 use Rattle.lxtr_build_laws.specs.Groups.{CodesIn}
 use Rattle.lxtr_build_laws.specs.Tables.{codes-in, label-is}
 use Rattle.lxtr_build_laws.specs.Slots.{zeros-check}
 use Rattle.lxtr_place.specs.declared.groups.Group.{Group}
-use Rattle.lxtr_place.specs.Groups.{groupFrom, groupOf, Placeable}
+use Rattle.lxtr_place.specs.Groups.{placeOf, groupFrom, groupOf, Placeable, Lent}
 use Rattle.lxtr_place.specs.Children.{Fresh}
 use Rattle.lxtr_place.specs.Agreeing.{Agree, place-same}
 
@@ -41,6 +48,70 @@ module _ (b : List ℕ) (n : ℕ) (e : n ≡ keyCount b) where
     ascending = rw all-pairs (k .right .ascending);
     codes-in = rw all-pairs (codes-in (pairsOf b) labels codes order t);
   }
+
+-- ---- where they start: of the first i keys it is in the table
+
+pub record StartsPut (b starts : List ℕ) (i : ℕ) : Type 0 where
+  pub each : (j : ℕ) → j < i → getD starts j 0 ≡ placeOf b j keysAt
+
+pub record Starting (b starts₀ starts : List ℕ) (at i : ℕ) : Type 0 where
+  pub passed : i ≤ keyCount b
+  pub size : length starts ≡ length starts₀
+  pub whole : WholeKeys b (keyCount b - i) at
+  pub small : at ≤ keysAt + 257 * i
+  pub is : at ≡ placeOf b i keysAt
+  pub put : StartsPut b starts i
+
+place-next : (b : List ℕ) (i at : ℕ) → placeOf b (i + 1) at ≡ nextKey b (placeOf b i at)
+unfolding placeOf
+place-next b zero at = refl
+place-next b (suc i) at = let e : suc i + 1 ≡ suc (i + 1) = omega arith in ap (λ (n : ℕ). placeOf b n at) e ∙ place-next b i (nextKey b at)
+
+module _ (b starts₀ : List ℕ) (k : KeysPassed b) where
+  pub starting-start : Starting b starts₀ starts₀ keysAt 0
+  unfolding placeOf
+  starting-start = record { passed = omega arith; size = refl; whole = rw sub-zero (k .whole); small = omega arith; is = refl; put = record { each = λ j h. absurd (omega arith) } }
+
+  module _ (starts : List ℕ) (at i : ℕ) (s : Starting b starts₀ starts at i) where
+    pub starting-cast : Fits w32 at
+    starting-cast = fits-under w32 at (2 ^ 32) (omega (arith, s .small, s .passed, k .few)) tt
+
+    pub starting-inside : keyCount b < length starts₀ → i < length starts
+    starting-inside h = omega (arith, s .size, s .passed)
+
+    pub starting-size : length (set starts i at) ≡ length starts₀
+    starting-size = length-set starts i at ∙ s .size
+
+    put-more : (h : i < length starts) → StartsPut b (set starts i at) (i + 1)
+    put-more h = record { each = λ j l. go j l (ℕ-discrete j i) }
+      where
+        go : (j : ℕ) → j < i + 1 → Dec (j ≡ i) → getD (set starts i at) j 0 ≡ placeOf b j keysAt
+        go j l (yes e) = ap (λ (n : ℕ). getD (set starts i at) n 0) e ∙ getD-set-same starts i at 0 h ∙ s .is ∙ ap (λ (n : ℕ). placeOf b n keysAt) (sym e)
+        go j l (no o) = getD-set-other starts i j at 0 o ∙ s .put .each j (omega arith)
+
+    pub starting-turn : (n at′ : ℕ) → n ≡ keyCount b → i < n → keyCount b < length starts₀ → at′ ≡ nextKey b at → Starting b starts₀ (set starts i at) at′ (i + 1)
+    unfolding nextKey maxLabels
+    starting-turn n at′ c h long e = record {
+      passed = omega arith;
+      size = starting-size;
+      whole = rw e (whole-on b (keyCount b) i at (omega arith) (s .whole));
+      small = omega (arith, e, s .small, whole-here b (keyCount b) i at (omega arith) (s .whole) .short);
+      is = e ∙ ap (nextKey b) (s .is) ∙ sym (place-next b i keysAt);
+      put = put-more (starting-inside long);
+    }
+
+    pub starting-starts : (n : ℕ) → n ≡ keyCount b → i < n → at < length b
+    starting-starts n c h = key-starts b (keyCount b) i at (omega arith) (s .whole)
+
+    pub starting-end : (n : ℕ) → n ≡ keyCount b → n ≤ i → keyCount b < length starts₀ → StartsPut b (set starts i at) (keyCount b + 1)
+    starting-end n c h long = let e : i ≡ keyCount b = omega (arith, s .passed) in subst (λ (m : ℕ). StartsPut b (set starts i at) (m + 1)) e (put-more (starting-inside long))
+
+pub starts-enough : (b starts : List ℕ) → KeysPassed b → length starts ≡ maxKeys + 1 → keyCount b < length starts
+starts-enough b starts k l = omega (arith, k .few)
+
+-- what is lent has a start for each of them
+pub all-lent : (b starts room : List ℕ) (n : ℕ) → KeysPassed b → n ≡ keyCount b → StartsPut b starts (keyCount b + 1) → length starts ≡ maxKeys + 1 → length room ≡ maxKeys + lengthCount → Lent b starts (all n) lengthCount room
+all-lent b starts room n k e s l m = record { indexed = record { inside = omega (arith, k .few); each = λ i h. ap (λ (m : ℕ). getD starts m 0) (zero-add i) ∙ s .each i (omega arith) }; long = omega (arith, k .few) }
 
 -- slot 1 of cleared work may be gone into
 module _ (w : List ℕ) (clear : Cleared w) where

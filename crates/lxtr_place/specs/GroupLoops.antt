@@ -1,26 +1,32 @@
 -- The loops over the keys of a group. What is left of the group makes the whole.
-use Prim.Native.Nat.{ℕ, zero, suc, _+_, _-_, _≤_, _<_}
+use Prim.Native.Nat.{ℕ, zero, suc, _+_, _*_, _-_, _/_, _^_, _≤_, _<_}
 use mathlib.Core.Path.{_≡_, refl, sym, ap, ap₂, _∙_, subst}
-use mathlib.Core.Logic.{_≢_}
-use mathlib.Core.List.{List, [], _∷_}
+use mathlib.Core.Logic.{_≢_, _⊎_, ⊎-elim, inl, inr}
+use mathlib.Core.List.{List, [], _∷_, List·Memᴰ}
+use mathlib.Core.List.List·Memᴰ.{List·Memᴰ·head, List·Memᴰ·tail}
 use mathlib.Core.Bool.{Bool, true, false, not}
-use native.Mathlib.Nat.{sub-zero, add-zero}
+use native.Mathlib.Nat.{sub-zero, add-zero, zero-add}
+use native.Mathlib.Numerals.{add-one}
+use native.Mathlib.Decide.{decLt}
 use native.Mathlib.Omega.{arith}
 use borrow.Author.Tests.{not-true, not-false}
-use lib.Dec.{eqb}
-use lib.ListN.{length, take, drop}
+use mir.Syntax.{w64}
+use mir.Val.{Fits}
+use borrow.Author.Needs.{fits-under}
+use lib.Dec.{eqb, ltb}
+use lib.ListN.{getD, length, take, drop}
 use lib.Seq.{drop-drop}
 use Rattle.lxtr_spec.specs.Labels.{lengthCount, valueLimit, Pair}
-use Rattle.lxtr_spec.specs.KeyLists.{maxKeys, keyLength, keyLabel, nextKey, keyAt}
+use Rattle.lxtr_spec.specs.KeyLists.{keyLength, keyLabel, nextKey, keyAt}
 use Rattle.lxtr_spec.specs.Placing.{below, endValue}
 use Rattle.lxtr_laws.specs.Ranges.{more}
-use Rattle.lxtr_build_laws.specs.KeyLists.{WholeKeys, Ascending}
+use Rattle.lxtr_build_laws.specs.KeyLists.{WholeKey, WholeKeys, Ascending}
 use Rattle.lxtr_build_laws.specs.CodeTables.{codeBy}
 use Rattle.lxtr_build_laws.specs.Groups.{ascending-below, codes-below}
 use Rattle.lxtr_build_laws.specs.Keys.{key-ends, key-goes, whole-on}
 use Rattle.lxtr_place.specs.declared.groups.Group.{Group}
-use Rattle.lxtr_place.specs.Groups.{groupFrom, groupOf, Grouped, Placeable, goesBy, skipTo, runOf}
-use Rattle.lxtr_place.specs.Runs.{tails, run-by, run-past, skip-by, skip-past, skip-below, end-none}
+use Rattle.lxtr_place.specs.Groups.{placeOf, groupFrom, groupOf, Grouped, Indexed, Placeable, goesBy, isUnder, runOf}
+use Rattle.lxtr_place.specs.Runs.{tails, below-past, run-by, run-past, under-past, under-before, front-below, end-none}
 
 -- ---- one key
 
@@ -32,6 +38,16 @@ module _ (b : List ℕ) (at d x len : ℕ) (e : len ≡ keyLength b at) where
   pub goes-on : (y : ℕ) → d < len → y ≡ keyLabel b at d → eqb y x ≡ goesBy x (drop d (keyAt b at))
   unfolding goesBy
   goes-on y h q = ap (λ (z : ℕ). eqb z x) q ∙ sym (ap (goesBy x) (key-goes b at d (omega arith)))
+
+-- ---- a group's keys
+
+keys-count : (b : List ℕ) (d n i at : ℕ) → n ≡ length (groupFrom b d n i at)
+unfolding groupFrom
+keys-count b d zero i at = refl
+keys-count b d (suc n) i at = ap suc (keys-count b d n (i + 1) (nextKey b at))
+
+pub group-size : (b : List ℕ) (g : Group) → g .count ≡ length (groupOf b g)
+group-size b g = keys-count b (g .depth) (g .count) (g .first) (g .at)
 
 -- ---- what a loop has left of a group after i keys, where the next one starts at a place
 
@@ -83,43 +99,168 @@ module _ (b : List ℕ) (g : Group) (x : ℕ) where
     unfolding runOf
     running-end h = omega (arith, r .run, ap (runOf x) (left-end b g at i h))
 
+-- ---- keys by their place in a group
+
+member : (b : List ℕ) (d n f at i : ℕ) → i < n → List·Memᴰ (drop d (keyAt b (placeOf b i at)), f + i) (groupFrom b d n f at)
+unfolding groupFrom placeOf
+member b d zero f at i h = absurd (omega arith)
+member b d (suc n) f at zero h = List·Memᴰ·head (ap (λ (m : ℕ). (drop d (keyAt b at), m)) (add-zero f))
+member b d (suc n) f at (suc i) h =
+    let e : f + 1 + i ≡ f + suc i = omega arith in
+    List·Memᴰ·tail (subst (λ (m : ℕ). List·Memᴰ (drop d (keyAt b (placeOf b i (nextKey b at))), m) (groupFrom b d n (f + 1) (nextKey b at))) e (member b d n (f + 1) (nextKey b at) i (omega arith)))
+
+-- the keys from the i-th on
+abbrev onward : List ℕ → ℕ → ℕ → ℕ → ℕ → ℕ → List Pair
+onward b d n f at i = groupFrom b d (n - i) (f + i) (placeOf b i at)
+
+onward-start : (b : List ℕ) (d n f at : ℕ) → onward b d n f at 0 ≡ groupFrom b d n f at
+unfolding placeOf
+onward-start b d n f at = ap₂ (λ (k j : ℕ). groupFrom b d k j at) (sub-zero n) (add-zero f)
+
+onward-suc : (b : List ℕ) (d n f at i : ℕ) → onward b d n (f + 1) (nextKey b at) i ≡ onward b d (suc n) f at (suc i)
+unfolding placeOf
+onward-suc b d n f at i =
+    let e : n - i ≡ suc n - suc i = omega arith in
+    let o : f + 1 + i ≡ f + suc i = omega arith in
+    ap₂ (λ (k j : ℕ). groupFrom b d k j (placeOf b i (nextKey b at))) e o
+
+whole-onward : (b : List ℕ) (n at i : ℕ) → i ≤ n → WholeKeys b n at → WholeKeys b (n - i) (placeOf b i at)
+unfolding WholeKeys placeOf
+whole-onward b n at zero h w = rw sub-zero w
+whole-onward b zero at (suc i) h w = absurd (omega arith)
+whole-onward b (suc n) at (suc i) h w = let e : n - i ≡ suc n - suc i = omega arith in subst (λ (k : ℕ). WholeKeys b k (placeOf b i (nextKey b at))) e (whole-onward b n (nextKey b at) i (omega arith) (w .1))
+
+ascending-onward : (b : List ℕ) (d n f at i : ℕ) → i ≤ n → Ascending (groupFrom b d n f at) → Ascending (onward b d n f at i)
+unfolding groupFrom Ascending
+ascending-onward b d n f at zero h a = rw (onward-start b d n f at) a
+ascending-onward b d zero f at (suc i) h a = absurd (omega arith)
+ascending-onward b d (suc n) f at (suc i) h a = subst Ascending (onward-suc b d n f at i) (ascending-onward b d n (f + 1) (nextKey b at) i (omega arith) (a .1))
+
+-- a key under x has none that goes on by x before it
+below-onward : (b : List ℕ) (d n f at x i : ℕ) → i < n → Ascending (groupFrom b d n f at) → isUnder x (drop d (keyAt b (placeOf b i at))) ≡ true → below x (groupFrom b d n f at) ≡ below x (onward b d n f at (suc i))
+unfolding groupFrom Ascending placeOf
+below-onward b d zero f at x i h a u = absurd (omega arith)
+below-onward b d (suc n) f at x zero h a u =
+    below-past x (drop d (keyAt b at), f) (groupFrom b d n (f + 1) (nextKey b at)) (under-past x (drop d (keyAt b at)) u) ∙ ap (below x) (sym (onward-start b d n (f + 1) (nextKey b at)) ∙ onward-suc b d n f at 0)
+below-onward b d (suc n) f at x (suc i) h a u =
+    below-past x (drop d (keyAt b at), f) (groupFrom b d n (f + 1) (nextKey b at)) (under-before x (drop d (keyAt b at)) _ u (a .0 _ (member b d n (f + 1) (nextKey b at) i (omega arith))))
+    ∙ below-onward b d n (f + 1) (nextKey b at) x i (omega arith) (a .1) u ∙ ap (below x) (onward-suc b d n f at (suc i))
+
+place-add : (b : List ℕ) (i j at : ℕ) → placeOf b (i + j) at ≡ placeOf b j (placeOf b i at)
+unfolding placeOf
+place-add b zero j at = ap (λ (k : ℕ). placeOf b k at) (zero-add j)
+place-add b (suc i) j at = let e : suc i + j ≡ suc (i + j) = omega arith in ap (λ (k : ℕ). placeOf b k at) e ∙ place-add b i j (nextKey b at)
+
 -- ---- `skip_to`
 
-pub record Skipping (b : List ℕ) (g : Group) (x at i : ℕ) : Type 0 where
-  pub passed : i ≤ g .count
-  pub values : g .first + g .count ≤ maxKeys
-  pub shallow : g .depth ≤ lengthCount
-  pub whole : WholeKeys b (g .count - i) at
-  pub skip : skipTo x (groupOf b g) ≡ skipTo x (left b g at i)
+module _ (b : List ℕ) (at d x len : ℕ) (e : len ≡ keyLength b at) where
+  pub under-end : len ≤ d → true ≡ isUnder x (drop d (keyAt b at))
+  unfolding isUnder
+  under-end h = sym (ap (isUnder x) (key-ends b at d (omega arith)))
 
-module _ (b : List ℕ) (g : Group) (x : ℕ) where
-  pub skipping-start : Grouped b g → Skipping b g x (g .at) 0
-  skipping-start w = record { passed = omega arith; values = w .values; shallow = w .shallow; whole = rw sub-zero (w .whole); skip = sym (ap (skipTo x) (left-start b g)) }
+  pub under-on : (y : ℕ) → d < len → y ≡ keyLabel b at d → ltb y x ≡ isUnder x (drop d (keyAt b at))
+  unfolding isUnder
+  under-on y h q = ap (λ (z : ℕ). ltb z x) q ∙ sym (ap (isUnder x) (key-goes b at d (omega arith)))
 
-  module _ (at i : ℕ) (r : Skipping b g x at i) where
-    module _ (t : Bool) (h : i < g .count) (e : t ≡ goesBy x (drop (g .depth) (keyAt b at))) where
-      pub skipping-turn : (at′ : ℕ) → t ≡ false → at′ ≡ nextKey b at → Skipping b g x at′ (i + 1)
-      skipping-turn at′ q n = rw n (record {
-        passed = omega arith;
-        values = r .values;
-        shallow = r .shallow;
-        whole = whole-on b (g .count) i at h (r .whole);
-        skip = r .skip ∙ ap (skipTo x) (left-on b g at i h) ∙ skip-past x (next b g at i) (left b g (nextKey b at) (i + 1)) (sym e ∙ q);
-      })
+abbrev from : Group → ℕ → ℕ → Group
+from g at i = record { at = at; first = g .first + i; count = g .count - i; depth = g .depth }
 
-      pub skipping-found : t ≡ true → left b g at i ≡ skipTo x (groupOf b g)
-      skipping-found q = let s = left-on b g at i h in s ∙ sym (r .skip ∙ ap (skipTo x) s ∙ skip-by x (next b g at i) (left b g (nextKey b at) (i + 1)) (sym e ∙ q))
+-- no key before the low-th goes on by x, and those from the high-th on are not under it
+pub record Searching (b : List ℕ) (g : Group) (x low high : ℕ) : Type 0 where
+  pub between : low ≤ high
+  pub to : high ≤ g .count
+  pub passed : below x (groupOf b g) ≡ below x (groupOf b (from g (placeOf b low (g .at)) low))
+  pub reached : (high ≡ g .count) ⊎ (isUnder x (drop (g .depth) (keyAt b (placeOf b high (g .at)))) ≡ false)
 
-    pub skipping-group : i < g .count → Grouped b (record { at = at; first = g .first + i; count = g .count - i; depth = g .depth })
-    skipping-group h = record { whole = r .whole; values = omega (arith, r .values); shallow = r .shallow }
+module _ (b starts : List ℕ) (g : Group) (x : ℕ) (s : Indexed b starts g) (w : Grouped b g) where
+  pub search-start : Searching b g x 0 (g .count)
+  search-start = record { between = omega arith; to = omega arith; passed = sym (ap (below x) (onward-start b (g .depth) (g .count) (g .first) (g .at))); reached = inl refl }
 
-    pub skipping-none : g .count ≤ i → groupFrom b (g .depth) 0 (g .first + i) at ≡ skipTo x (groupOf b g)
-    unfolding groupFrom skipTo
-    skipping-none h = sym (r .skip ∙ ap (skipTo x) (left-end b g at i h))
+  module _ (low high : ℕ) (r : Searching b g x low high) where
+    -- the key in the middle of those that are left, which starts at a
+    module _ (h : low < high) where
+      abbrev mid : ℕ
+      mid = low + (high - low) / 2
 
-    pub skipping-empty : g .count ≤ i → Grouped b (record { at = at; first = g .first + i; count = 0; depth = g .depth })
-    unfolding WholeKeys
-    skipping-empty h = record { whole = tt; values = omega (arith, r .values, r .passed); shallow = r .shallow }
+      pub mid-sum : Fits w64 (g .first + mid)
+      mid-sum = fits-under w64 (g .first + mid) (2 ^ 32) (omega (arith, w .values, r .to)) tt
+
+      pub mid-fits : Fits w64 ((g .first + mid) * 4)
+      mid-fits = fits-under w64 ((g .first + mid) * 4) (2 ^ 32) (omega (arith, w .values, r .to)) tt
+
+      pub mid-inside : g .first + mid < length starts
+      mid-inside = omega (arith, s .inside, r .to)
+
+      module _ (a : ℕ) (is-at : a ≡ getD starts (g .first + mid) 0) where
+        at-mid : a ≡ placeOf b mid (g .at)
+        at-mid = is-at ∙ s .each mid (omega (arith, r .to))
+
+        pub mid-whole : WholeKey b a
+        unfolding WholeKeys
+        mid-whole =
+            let e : g .count - mid ≡ suc (g .count - mid - 1) = omega (arith, r .to) in
+            rw at-mid (subst (λ (k : ℕ). WholeKeys b k (placeOf b mid (g .at))) e (whole-onward b (g .count) (g .at) mid (omega (arith, r .to)) (w .whole)) .0)
+
+        module _ (t : Bool) (is : t ≡ isUnder x (drop (g .depth) (keyAt b a))) where
+          here : t ≡ isUnder x (drop (g .depth) (keyAt b (placeOf b mid (g .at))))
+          here = is ∙ ap (λ (y : ℕ). isUnder x (drop (g .depth) (keyAt b y))) at-mid
+
+          pub search-low : Ascending (groupOf b g) → t ≡ true → Searching b g x (mid + 1) high
+          search-low asc u = record {
+            between = omega arith;
+            to = r .to;
+            passed = rw (add-one mid) (below-onward b (g .depth) (g .count) (g .first) (g .at) x mid (omega (arith, r .to)) asc (sym here ∙ u));
+            reached = r .reached;
+          }
+
+          pub search-high : t ≡ false → Searching b g x low mid
+          search-high u = record { between = omega arith; to = omega (arith, r .to); passed = r .passed; reached = inr (sym here ∙ u) }
+
+    -- none is left: the group from the low-th key on, which starts at a
+    module _ (stop : high ≤ low) where
+      pub inside : low ≤ g .count
+      inside = omega (arith, r .between, r .to)
+
+      pub low-sum : Fits w64 (g .first + low)
+      low-sum = fits-under w64 (g .first + low) (2 ^ 32) (omega (arith, w .values, inside)) tt
+
+      pub low-fits : Fits w64 ((g .first + low) * 4)
+      low-fits = fits-under w64 ((g .first + low) * 4) (2 ^ 32) (omega (arith, w .values, inside)) tt
+
+      pub low-inside : g .first + low < length starts
+      low-inside = omega (arith, s .inside, inside)
+
+      module _ (a : ℕ) (is-at : a ≡ getD starts (g .first + low) 0) where
+        at-low : a ≡ placeOf b low (g .at)
+        at-low = is-at ∙ s .each low inside
+
+        pub found-group : Grouped b (from g a low)
+        found-group = record { whole = rw at-low (whole-onward b (g .count) (g .at) low inside (w .whole)); values = omega (arith, w .values, inside); shallow = w .shallow }
+
+        pub found-started : Indexed b starts (from g a low)
+        found-started = record {
+          inside = omega (arith, s .inside, inside);
+          each = λ i h.
+              let e : g .first + low + i ≡ g .first + (low + i) = omega arith in
+              ap (λ (k : ℕ). getD starts k 0) e ∙ s .each (low + i) (omega (arith, inside)) ∙ place-add b low i (g .at) ∙ ap (placeOf b i) (sym at-low);
+        }
+
+        pub found-below : Ascending (groupOf b g) → below x (groupOf b g) ≡ tails (take (runOf x (groupOf b (from g a low))) (groupOf b (from g a low)))
+        unfolding groupFrom below tails runOf
+        found-below asc = rw at-low (r .passed ∙ go (decLt low (g .count)))
+          where
+            rest : List Pair
+            rest = groupOf b (from g (placeOf b low (g .at)) low)
+
+            go : Dec (low < g .count) → below x rest ≡ tails (take (runOf x rest) rest)
+            go (no h) = let e : g .count - low ≡ 0 = omega arith in ap (λ (k : ℕ). below x (groupFrom b (g .depth) k (g .first + low) (placeOf b low (g .at)))) e ∙ sym (ap (λ (k : ℕ). let l = groupFrom b (g .depth) k (g .first + low) (placeOf b low (g .at)) in tails (take (runOf x l) l)) e)
+            go (yes h) =
+                let same : high ≡ low = omega (arith, r .between) in
+                let not-under : isUnder x (drop (g .depth) (keyAt b (placeOf b low (g .at)))) ≡ false = ⊎-elim (λ (e : high ≡ g .count). absurd (omega arith)) (λ u. ap (λ (i : ℕ). isUnder x (drop (g .depth) (keyAt b (placeOf b i (g .at))))) (sym same) ∙ u) (r .reached) in
+                let e : g .count - low ≡ suc (g .count - low - 1) = omega arith in
+                let cut : rest ≡ (drop (g .depth) (keyAt b (placeOf b low (g .at))), g .first + low) ∷ groupFrom b (g .depth) (g .count - low - 1) (g .first + low + 1) (nextKey b (placeOf b low (g .at))) =
+                ap (λ (k : ℕ). groupFrom b (g .depth) k (g .first + low) (placeOf b low (g .at))) e in
+                rw cut (front-below x _ _ (subst Ascending cut (ascending-onward b (g .depth) (g .count) (g .first) (g .at) low inside asc)) not-under)
 
 -- ---- `below`
 
@@ -135,16 +276,19 @@ tails-front b d zero n f at h = refl
 tails-front b d (suc k) zero f at h = absurd (omega arith)
 tails-front b d (suc k) (suc n) f at h = ap₂ {C = List Pair} (λ (l : List ℕ) (g : List Pair). (l, f) ∷ g) (sym (drop-drop 1 d (keyAt b at))) (tails-front b d k n (f + 1) (nextKey b at) (omega arith))
 
--- g from its first key on that goes on by x is h, of which k keys do
+-- h is g from a key on, behind those under x, and k of its first keys go on by x
 module _ (b : List ℕ) (x : ℕ) (g h : Group) (k : ℕ) (few : k ≤ h .count) (deep : h .depth ≡ g .depth) where
   pub below-group : Grouped b h → g .depth < lengthCount → Grouped b (record { at = h .at; first = h .first; count = k; depth = h .depth + 1 })
   below-group w l = record { whole = whole-front b k (h .count) (h .at) few (w .whole); values = omega (arith, w .values); shallow = omega arith }
 
-  pub below-is : groupOf b h ≡ skipTo x (groupOf b g) → k ≡ runOf x (groupOf b h) → Ascending (groupOf b g) → groupFrom b (h .depth + 1) k (h .first) (h .at) ≡ below x (groupOf b g)
-  below-is s r a =
+  pub below-started : (starts : List ℕ) → Indexed b starts h → Indexed b starts (record { at = h .at; first = h .first; count = k; depth = h .depth + 1 })
+  below-started starts s = record { inside = omega (arith, s .inside); each = λ i l. s .each i (omega arith) }
+
+  pub below-is : below x (groupOf b g) ≡ tails (take (runOf x (groupOf b h)) (groupOf b h)) → k ≡ runOf x (groupOf b h) → groupFrom b (h .depth + 1) k (h .first) (h .at) ≡ below x (groupOf b g)
+  below-is s r =
       tails-front b (h .depth) k (h .count) (h .first) (h .at) few
-      ∙ ap₂ (λ (m : ℕ) (l : List Pair). tails (take m l)) (r ∙ ap (runOf x) s) s
-      ∙ sym (skip-below x (groupOf b g) a)
+      ∙ ap (λ (m : ℕ). tails (take m (groupOf b h))) r
+      ∙ sym s
 
 -- a child's group may be placed where its parent's may
 pub child-placeable : (b labels codes : List ℕ) (g h : Group) (x : ℕ) → Placeable b labels codes g → Grouped b h → groupOf b h ≡ below x (groupOf b g) → Placeable b labels codes h

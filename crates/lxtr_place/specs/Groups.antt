@@ -1,15 +1,21 @@
 -- Groups of keys as the code holds them: keys of the list from a place on.
-use Prim.Native.Nat.{ℕ, zero, suc, _+_, _≤_}
+use Prim.Native.Nat.{ℕ, zero, suc, _+_, _≤_, _<_}
+use mathlib.Core.Path.{_≡_}
 use mathlib.Core.List.{List, [], _∷_}
 use mathlib.Core.Bool.{Bool, true, false}
-use lib.ListN.{length, drop}
-use lib.Dec.{eqb}
+use lib.ListN.{getD, length, drop}
+use lib.Dec.{eqb, ltb}
 use Rattle.lxtr_spec.specs.Labels.{lengthCount, Pair}
 use Rattle.lxtr_spec.specs.KeyLists.{maxKeys, nextKey, keyAt}
 use Rattle.lxtr_build_laws.specs.KeyLists.{WholeKeys, Ascending}
 use Rattle.lxtr_build_laws.specs.CodeTables.{codeBy}
 use Rattle.lxtr_build_laws.specs.Groups.{CodesIn}
 use Rattle.lxtr_place.specs.declared.groups.Group.{Group}
+
+-- where the key starts that is i keys behind the one at a place
+unfoldable pub placeOf : List ℕ → ℕ → ℕ → ℕ
+placeOf b zero at = at
+placeOf b (suc i) at = placeOf b i (nextKey b at)
 
 -- the group of the n keys from a place on, of which the first has value number i, after d labels
 unfoldable pub groupFrom : List ℕ → ℕ → ℕ → ℕ → ℕ → List Pair
@@ -25,6 +31,11 @@ pub record Grouped (b : List ℕ) (g : Group) : Type 0 where
   pub values : g .first + g .count ≤ maxKeys
   pub shallow : g .depth ≤ lengthCount
 
+-- a table has where its keys start, by their value numbers
+pub record Indexed (b starts : List ℕ) (g : Group) : Type 0 where
+  pub inside : g .first + g .count < length starts
+  pub each : (i : ℕ) → i ≤ g .count → getD starts (g .first + i) 0 ≡ placeOf b i (g .at)
+
 -- and it may be placed
 pub record Placeable (b labels codes : List ℕ) (g : Group) : Type 0 where
   pub grouped : Grouped b g
@@ -36,11 +47,17 @@ unfoldable pub goesBy : ℕ → List ℕ → Bool
 goesBy x [] = false
 goesBy x (y ∷ r) = eqb y x
 
--- a group from its first key on that goes on by x, and how many at its front do
-unfoldable pub skipTo : ℕ → List Pair → List Pair
-skipTo x [] = []
-skipTo x (p ∷ g) = elim (goesBy x (p .0)) [ true ↦ p ∷ g | false ↦ skipTo x g ]
+-- or it is used up or goes on by a smaller one
+unfoldable pub isUnder : ℕ → List ℕ → Bool
+isUnder x [] = true
+isUnder x (y ∷ r) = ltb y x
 
+-- how many keys at a group's front go on by x
 unfoldable pub runOf : ℕ → List Pair → ℕ
 runOf x [] = 0
 runOf x (p ∷ g) = elim (goesBy x (p .0)) [ true ↦ suc (runOf x g) | false ↦ 0 ]
+
+-- what is lent to place it with `left` labels still allowed: where its keys start, and room for codes
+pub record Lent (b starts : List ℕ) (g : Group) (left : ℕ) (room : List ℕ) : Type 0 where
+  pub indexed : Indexed b starts g
+  pub long : g .count + left ≤ length room

@@ -7,9 +7,8 @@ pub mod Groups
 pub mod Runs
 pub mod GroupLoops
 pub mod Codes
--- the recursion: which slots are children, the codes in turn, and the turns of the loop
+-- the recursion: the next child is fresh, and the turns of the loop
 pub mod Children
-pub mod CodesFrom
 pub mod Turns
 -- from the tables to the code map, and all keys
 pub mod Agreeing

@@ -11,9 +11,10 @@ use lib.Dec.{eqb}
 use lib.ListN.{take, drop}
 use Rattle.lxtr_spec.specs.Labels.{comesBefore, Pair}
 use Rattle.lxtr_spec.specs.Placing.{below, endValue}
+use Rattle.lxtr_laws.specs.Tests.{ltb-is-true, ltb-is-false}
 use Rattle.lxtr_laws.specs.Order.{first-or-rest}
 use Rattle.lxtr_build_laws.specs.KeyLists.{Ascending}
-use Rattle.lxtr_place.specs.Groups.{goesBy, skipTo, runOf}
+use Rattle.lxtr_place.specs.Groups.{goesBy, isUnder, runOf}
 
 -- what is left behind one more label
 unfoldable pub tails : List Pair → List Pair
@@ -34,7 +35,7 @@ module _ (x : ℕ) (p : Pair) (g : List Pair) where
       go [] h = absurd (false≢true h)
       go (y ∷ r) h = ap (λ (t : Bool). elim t as (λ _. List Pair) [ true ↦ (r, p .1) ∷ below x g | false ↦ below x g ]) h
 
-  below-past : goesBy x (p .0) ≡ false → below x (p ∷ g) ≡ below x g
+  pub below-past : goesBy x (p .0) ≡ false → below x (p ∷ g) ≡ below x g
   unfolding below goesBy
   below-past h = go (p .0) h
     where
@@ -49,14 +50,6 @@ module _ (x : ℕ) (p : Pair) (g : List Pair) where
   pub run-past : goesBy x (p .0) ≡ false → runOf x (p ∷ g) ≡ 0
   unfolding runOf
   run-past h = ap (λ (t : Bool). elim t as (λ _. ℕ) [ true ↦ suc (runOf x g) | false ↦ 0 ]) h
-
-  pub skip-by : goesBy x (p .0) ≡ true → skipTo x (p ∷ g) ≡ p ∷ g
-  unfolding skipTo
-  skip-by h = ap (λ (t : Bool). elim t as (λ _. List Pair) [ true ↦ p ∷ g | false ↦ skipTo x g ]) h
-
-  pub skip-past : goesBy x (p .0) ≡ false → skipTo x (p ∷ g) ≡ skipTo x g
-  unfolding skipTo
-  skip-past h = ap (λ (t : Bool). elim t as (λ _. List Pair) [ true ↦ p ∷ g | false ↦ skipTo x g ]) h
 
 -- ---- behind the run
 
@@ -105,19 +98,37 @@ unfolding goesBy
 begins x [] e = absurd (false≢true e)
 begins x (y ∷ r) e = ap (λ (z : ℕ). z ∷ r) (eqb-true y x e)
 
--- from the group's first key that goes on by x, the run is all of it
-pub skip-below : (x : ℕ) (g : List Pair) → Ascending g → below x g ≡ tails (take (runOf x (skipTo x g)) (skipTo x g))
-unfolding Ascending tails below runOf skipTo
-skip-below x [] a = refl
-skip-below x (p ∷ g) a = go (skip-below x g (a .1)) (goesBy x (p .0)) refl
+-- ---- before the run
+
+pub under-past : (x : ℕ) (k : List ℕ) → isUnder x k ≡ true → goesBy x k ≡ false
+unfolding isUnder goesBy
+under-past x [] u = refl
+under-past x (y ∷ r) u = ne-eqb y x (λ e. omega (arith, ltb-is-true y x .0 u))
+
+-- what comes before something under x does not go on by x
+pub under-before : (x : ℕ) (k l : List ℕ) → isUnder x l ≡ true → comesBefore k l ≡ true → goesBy x k ≡ false
+unfolding isUnder goesBy comesBefore
+under-before x [] l u a = refl
+under-before x (y ∷ r) [] u a = absurd (false≢true a)
+under-before x (y ∷ r) (z ∷ s) u a = ne-eqb y x (λ e. let l = ltb-is-true z x .0 u in ⊎-elim (λ (q : y < z). omega arith) (λ q. omega (arith, q .0)) (first-or-rest y z r s .0 a))
+
+not-under : (x : ℕ) (k : List ℕ) → isUnder x k ≡ false → goesBy x k ≡ false → Past x k
+unfolding isUnder goesBy Past
+not-under x [] u n = absurd (false≢true (sym u))
+not-under x (y ∷ r) u n = let l = ltb-is-false y x .0 u in let o = eqb-false y x n in omega arith
+
+-- where the first key is not under x, the run is all of it
+pub front-below : (x : ℕ) (p : Pair) (g : List Pair) → Ascending (p ∷ g) → isUnder x (p .0) ≡ false → below x (p ∷ g) ≡ tails (take (runOf x (p ∷ g)) (p ∷ g))
+unfolding Ascending tails
+front-below x p g a u = go (goesBy x (p .0)) refl
   where
-    go : below x g ≡ tails (take (runOf x (skipTo x g)) (skipTo x g)) → (t : Bool) → goesBy x (p .0) ≡ t
-        → below x (p ∷ g) ≡ tails (take (runOf x (elim t as (λ _. List Pair) [ true ↦ p ∷ g | false ↦ skipTo x g ])) (elim t as (λ _. List Pair) [ true ↦ p ∷ g | false ↦ skipTo x g ]))
-    go rest true e =
+    go : (t : Bool) → goesBy x (p .0) ≡ t → below x (p ∷ g) ≡ tails (take (runOf x (p ∷ g)) (p ∷ g))
+    go true e =
         below-by x p g e
         ∙ ap (λ (l : List Pair). (drop 1 (p .0), p .1) ∷ l) (run-below x (drop 1 (p .0)) g (a .1) (λ q m. ap (λ (k : List ℕ). comesBefore k (q .0)) (sym (begins x (p .0) e)) ∙ a .0 q m))
         ∙ ap (λ (n : ℕ). tails (take n (p ∷ g))) (sym (run-by x p g e))
-    go rest false e = below-past x p g e ∙ rest
+    go false e =
+        below-past x p g e ∙ no-more x g (λ q m. not-by x (q .0) (past-after x (q .0) (p .0) (not-under x (p .0) u e) (a .0 q m))) ∙ ap (λ (n : ℕ). tails (take n (p ∷ g))) (sym (run-past x p g e))
 
 -- ---- the end
 

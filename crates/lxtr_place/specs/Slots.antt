@@ -1,5 +1,5 @@
 -- The tests of one slot, and how many slots the work allows.
-use Prim.Native.Nat.{ℕ, _+_, _*_, _/_, _%_, _≤_, _<_}
+use Prim.Native.Nat.{ℕ, _+_, _*_, _/_, _≤_, _<_}
 use mathlib.Core.Path.{_≡_, refl, sym, _∙_}
 use mathlib.Core.List.{List}
 use mathlib.Core.Bool.{Bool, true, false, _&&_, not}
@@ -10,7 +10,7 @@ use borrow.Author.Tests.{not-true, not-false}
 use Rattle.lxtr_spec.specs.Labels.{maxSlots}
 use Rattle.lxtr_spec.specs.Placing.{checkAt, isFree}
 use Rattle.lxtr_laws.specs.Tests.{and-is-true, ltb-is-true}
-use Rattle.lxtr_spec.specs.Builds.{slotsIn, isChild}
+use Rattle.lxtr_spec.specs.Builds.{slotsIn}
 
 module _ (W : ℕ) where
   pub few-slots : W / 2 < maxSlots → W / 2 ≡ slotsIn W
@@ -37,12 +37,3 @@ module _ (S t : ℕ) (r : Bool) (is : r ≡ (leb 2 t && ltb t S)) where
     pub free-inside : not r ≡ false → eqb (getD w (2 * t + 1) 0) 0 ≡ isFree S w t
     unfolding isFree checkAt
     free-inside n = sym (rw (← is, not-false r n) refl)
-
-    module _ (p : ℕ) where
-      pub child-outside : not r ≡ true → false ≡ isChild w S p t
-      unfolding isChild
-      child-outside n = sym (rw (← is, not-true r n) refl)
-
-      pub child-inside : not r ≡ false → eqb (getD w (2 * t + 1) 0 % 2147483648) p ≡ isChild w S p t
-      unfolding isChild checkAt
-      child-inside n = sym (rw (← is, not-false r n) refl)

@@ -1,29 +1,50 @@
--- The loop of `place` over the codes: what it keeps, and its turns.
-use Prim.Native.Nat.{ℕ, suc, _+_, _*_, _-_, _≤_, _<_}
-use mathlib.Core.Path.{_≡_, refl, sym, ap, _∙_}
+-- The loop of `place` over the codes of a slot's children: what it keeps, and its turns.
+use Prim.Native.Nat.{ℕ, zero, suc, _+_, _-_, _≤_, _<_}
+use mathlib.Core.Path.{_≡_, refl, sym, ap, ap₂, _∙_}
 use mathlib.Core.Logic.{_≢_, inl}
-use mathlib.Core.List.{List, [], _∷_, List·Memᴰ}
+use mathlib.Core.List.{List, [], _∷_, _++_, List·Memᴰ}
 use mathlib.Core.Option.{Option, some, none}
-use mathlib.Core.Bool.{Bool, true, false, true≢false, not}
+use mathlib.Core.Bool.{Bool, true, false, not}
+use native.Mathlib.Numerals.{add-one}
 use native.Mathlib.Omega.{arith}
 use borrow.Author.Tests.{not-true, not-false}
-use lib.ListN.{length}
+use lib.ListN.{getD, length, take, drop, drop-of-length-le, length-take, length-drop}
+use lib.Seq.{length-take-le, drop-cons, getD-take, take-at}
 use Rattle.lxtr_spec.specs.Labels.{Pair}
+use Rattle.lxtr_spec.specs.KeyLists.{maxKeys}
 use Rattle.lxtr_spec.specs.Joining.{slotUnder}
 use Rattle.lxtr_spec.specs.Placing.{childCodes, below, endValue, settle, intoEach, place}
-use Rattle.lxtr_spec.specs.Builds.{isChild}
 use Rattle.lxtr_spec.specs.declared.Found.{Found}
 use Rattle.lxtr_spec.specs.declared.Found.the-variants.{Is, Nothing}
+use Rattle.lxtr_laws.specs.Members.{member-at}
 use Rattle.lxtr_build_laws.specs.CodeTables.{Rising}
 use Rattle.lxtr_build_laws.specs.Work.{placedAs}
 use Rattle.lxtr_build_laws.specs.Groups.{CodesIn}
-use Rattle.lxtr_build_laws.specs.ChildCodes.{codes-rise, codes-small}
+use Rattle.lxtr_build_laws.specs.ChildCodes.{codes-rise, codes-small, codes-few}
 use Rattle.lxtr_build_laws.specs.Steps.{Step, step-none, step-join, step-wider}
 use Rattle.lxtr_build_laws.specs.Settling.{Settled, settle-some, settle-step}
 use Rattle.lxtr_build_laws.specs.Placed.{place-step}
 use Rattle.lxtr_place.specs.Settling.{settledAs}
-use Rattle.lxtr_place.specs.Children.{Fresh, Done, is-child-true, is-child-of, next-fresh}
-use Rattle.lxtr_place.specs.CodesFrom.{from, from-none, from-hit, from-miss, each-first, each-some, each-none}
+use Rattle.lxtr_place.specs.Children.{Fresh, Done, next-fresh}
+
+-- ---- going into one child after the other
+
+-- an end has nothing below it
+each-end : (f : ℕ → List ℕ → Option (List ℕ)) (c : ℕ) (cs w : List ℕ) → c ≡ 0 → intoEach f (c ∷ cs) w ≡ intoEach f cs w
+unfolding intoEach
+each-end f c cs w e = rw e refl
+
+each-some : (f : ℕ → List ℕ → Option (List ℕ)) (c : ℕ) (cs w u : List ℕ) → c ≢ 0 → f c w ≡ some u → intoEach f (c ∷ cs) w ≡ intoEach f cs u
+unfolding intoEach
+each-some f zero cs w u l e = absurd (l refl)
+each-some f (suc c) cs w u l e = ap (λ (o : Option (List ℕ)). elim o as (λ _. Option (List ℕ)) [ none ↦ none | some v ↦ intoEach f cs v ]) e
+
+each-none : (f : ℕ → List ℕ → Option (List ℕ)) (c : ℕ) (cs w : List ℕ) → c ≢ 0 → f c w ≡ none → intoEach f (c ∷ cs) w ≡ none
+unfolding intoEach
+each-none f zero cs w l e = absurd (l refl)
+each-none f (suc c) cs w l e = ap (λ (o : Option (List ℕ)). elim o as (λ _. Option (List ℕ)) [ none ↦ none | some v ↦ intoEach f cs v ]) e
+
+-- ---- the loop
 
 module _ (S : ℕ) (code label : ℕ → ℕ) (left : ℕ) (g : List Pair) where
   abbrev cs : List ℕ
@@ -40,12 +61,15 @@ module _ (S : ℕ) (code label : ℕ → ℕ) (left : ℕ) (g : List Pair) where
     pub codes-in : CodesIn code n g
     pub settled : settle S p (endValue g) cs w ≡ some (b, u)
 
-  -- and those of the codes below c were gone into: the work is x
-  pub record Going (n b : ℕ) (u : List ℕ) (c : ℕ) (x : List ℕ) : Type 0 where
-    pub from-one : 1 ≤ c
-    pub to-last : c ≤ n + 1
-    pub rest : intoEach (into b) cs u ≡ intoEach (into b) (from c cs) x
-    pub done : Step S (Done b cs c) u x
+  -- and those of the first j codes, which the room holds at its front, were gone into: the work is x
+  pub record Going (k b : ℕ) (u room₀ room : List ℕ) (j : ℕ) (x : List ℕ) : Type 0 where
+    pub to-last : j ≤ k
+    pub small : k ≤ maxKeys
+    pub few : k ≤ length room₀
+    pub size : length room ≡ length room₀
+    pub codes-are : take k room ≡ cs
+    pub rest : intoEach (into b) cs u ≡ intoEach (into b) (drop j cs) x
+    pub done : Step S (Done b cs j) u x
 
   module _ (p : ℕ) (w : List ℕ) where
     abbrev whole : Option (List ℕ)
@@ -63,14 +87,17 @@ module _ (S : ℕ) (code label : ℕ → ℕ) (left : ℕ) (g : List Pair) where
     unfolding place
     settled-as o h e = let k : left ≡ suc (left - 1) = omega arith in ap (λ (k : ℕ). place S code label k p g w) k ∙ ap then e
 
-    module _ (r : Found) (u : List ℕ) (answer : settledAs r u ≡ settle S p (endValue g) cs w) (some-left : left ≢ 0) where
+    module _ (r : Found) (u l : List ℕ) (are : l ≡ cs) (answer : settledAs r u ≡ settle S p (endValue g) l w) (some-left : left ≢ 0) where
+      settled-is : (o : Option (ℕ × List ℕ)) → settledAs r u ≡ o → settle S p (endValue g) cs w ≡ o
+      settled-is o e = ap (λ (k : List ℕ). settle S p (endValue g) k w) (sym are) ∙ sym answer ∙ e
+
       pub none-fits : r ≡ Nothing → (v : List ℕ) → placedAs false v ≡ whole
       unfolding placedAs settledAs
-      none-fits e v = sym (settled-as none some-left (sym answer ∙ ap (λ (y : Found). settledAs y u) e))
+      none-fits e v = sym (settled-as none some-left (settled-is none (ap (λ (y : Found). settledAs y u) e)))
 
       pub start : (n b : ℕ) → r ≡ Is b → Fresh S w p → CodesIn code n g → Started n p w b u
       unfolding settledAs
-      start n b e f k = record { some-left = some-left; fresh = f; codes-in = k; settled = sym answer ∙ ap (λ (y : Found). settledAs y u) e }
+      start n b e f k = record { some-left = some-left; fresh = f; codes-in = k; settled = settled-is (some (b, u)) (ap (λ (y : Found). settledAs y u) e) }
 
 -- ---- the turns
 
@@ -87,71 +114,77 @@ module _ {S : ℕ} {code label : ℕ → ℕ} {left : ℕ} {g : List Pair} {n p 
   rises : Rising codes
   rises = codes-rise code g
 
-  pub going-start : Going S code label left g n b u 1 u
-  going-start = record { from-one = omega arith; to-last = omega arith; rest = each-first go codes u rises; done = step-none S (Done b codes 1) u }
+  -- the codes are at the front of the room
+  pub going-start : {k : ℕ} {room₀ : List ℕ} → k ≤ maxKeys → k ≤ length room₀ → take k room₀ ≡ codes → Going S code label left g k b u room₀ room₀ 0 u
+  going-start small few e = record { to-last = omega arith; small = small; few = few; size = refl; codes-are = e; rest = refl; done = step-none S (Done b codes 0) u }
 
-  module _ {c : ℕ} {x : List ℕ} (going : Going S code label left g n b u c x) where
-    left-over : place S code label left p g w ≡ intoEach go (from c codes) x
+  module _ {k : ℕ} {room₀ room : List ℕ} {j : ℕ} {x : List ℕ} (going : Going S code label left g k b u room₀ room j x) where
+    count-is : k ≡ length codes
+    count-is = sym (length-take-le k room (omega (arith, going .few, going .size))) ∙ ap length (going .codes-are)
+
+    left-over : place S code label left p g w ≡ intoEach go (drop j codes) x
     left-over = settled-as S code label left g p w (some (b, u)) (s .some-left) (s .settled) ∙ going .rest
 
     pub going-size : length x ≡ length w
     going-size = going .done .size ∙ settle-step S p (endValue g) codes w b u (s .fresh .ready) up rises .size
 
-    pub going-room : 2 * S ≤ length x
-    going-room = omega (arith, s .fresh .ready .room, going-size)
-
-    pub going-end : n < c → placedAs true x ≡ place S code label left p g w
+    pub going-end : k ≤ j → placedAs true x ≡ place S code label left p g w
     unfolding intoEach placedAs
-    going-end h = sym (left-over ∙ ap (λ (l : List ℕ). intoEach go l x) (from-none c codes (λ e m. omega (arith, codes-small code n g (s .codes-in) e m))))
+    going-end h = sym (left-over ∙ ap (λ (l : List ℕ). intoEach go l x) (drop-of-length-le codes {i = j} (omega (arith, count-is))))
 
-    wider : Step S (Done b codes (c + 1)) u x
-    wider = step-wider (going .done) (λ t q. (q .0, q .1, omega (arith, q .2), q .3))
+    -- the next code is c
+    module _ {c : ℕ} (h : j < k) (e : c ≡ getD room j 0) where
+      is : c ≡ getD codes j 0
+      is = e ∙ sym (getD-take k room j 0 h) ∙ ap (λ (l : List ℕ). getD l j 0) (going .codes-are)
 
-    -- t is the slot by code c, and `child` the answer whether it is p's child
-    module _ {t : ℕ} (at : t ≡ slotUnder b c) {child : Bool} (asked : child ≡ isChild x S p t) where
-      says : (a : Bool) → child ≡ a → isChild x S p (slotUnder b c) ≡ a
-      says a e = ap (isChild x S p) (sym at) ∙ sym asked ∙ e
+      member : List·Memᴰ c codes
+      member = rw is (member-at 0 codes j (omega (arith, count-is)))
 
-      -- the code is no child's
-      pub turn-past : c ≤ n → child ≡ false → (y : List ℕ) → y ≡ x → Going S code label left g n b u (c + 1) y
-      turn-past h e y q = rw q (record {
-        from-one = omega arith;
-        to-last = omega arith;
-        rest = going .rest ∙ ap (λ (l : List ℕ). intoEach go l x) (from-miss c codes rises
-            (λ m. true≢false (sym (is-child-of S p (endValue g) codes w b u (s .fresh) rises up c x (going .done) c m) ∙ says false e)));
-        done = wider;
-      })
+      here : intoEach go (drop j codes) x ≡ intoEach go (c ∷ drop (j + 1) codes) x
+      here = ap (λ (l : List ℕ). intoEach go l x) (drop-cons codes j 0 (omega (arith, count-is)) ∙ ap₂ {C = List ℕ} (λ (a n : ℕ). a ∷ drop n codes) (sym is) (sym (add-one j)))
 
-      module _ (e : child ≡ true) where
-        member : List·Memᴰ c codes
-        member = is-child-true S p (endValue g) codes w b u (s .fresh) rises up c x (going .done) c (says true e)
+      wider : Step S (Done b codes (j + 1)) u x
+      wider = step-wider (going .done) (λ t q. (q .0, omega (arith, q .1), q .2))
 
+      pub turn-small : c ≤ n
+      turn-small = codes-small code n g (s .codes-in) c member
+
+      -- an end
+      pub turn-past : c ≡ 0 → (room′ y : List ℕ) → room′ ≡ room → y ≡ x → Going S code label left g k b u room₀ room′ (j + 1) y
+      turn-past z room′ y q o = rw (q, o) (record { to-last = omega arith; small = going .small; few = going .few; size = going .size; codes-are = going .codes-are; rest = going .rest ∙ here ∙ each-end go c (drop (j + 1) codes) x z; done = wider })
+
+      -- any other child, whose slot is t
+      module _ {t : ℕ} (at : t ≡ slotUnder b c) where
         fresh-there : Fresh S x (slotUnder b c)
-        fresh-there = next-fresh S p (endValue g) codes w b u (s .fresh) rises up c x (going .done) member
+        fresh-there = rw is (next-fresh S p (endValue g) codes w b u (s .fresh) rises up j x (going .done) (omega (arith, count-is)))
 
-        -- the child's slot may be gone into
+        -- it may be gone into
         pub turn-fresh : Fresh S x t
         turn-fresh = rw at fresh-there
 
-        -- it is: h is the child's group, r the answer, z the work then
-        module _ {h : List Pair} (group : h ≡ below (label c) g) (r : Bool) (z : List ℕ) (placed : placedAs r z ≡ place S code label (left - 1) t h x) where
+        -- with what is left of the room
+        pub turn-room : (m r : ℕ) (f : List Pair) → m ≡ length g → r ≡ length f → f ≡ below (label c) g → m + left ≤ length room₀ → r + (left - 1) ≤ length (take (length room - k) (drop k room))
+        turn-room m r f e q group h = omega (arith, ap length group, codes-few code (label c) g, count-is, going .size, s .some-left, length-take (length room - k) (drop k room), length-drop k room)
+
+        -- it is: f is the child's group, r the answer, z the work then
+        module _ (some-code : c ≢ 0) {f : List Pair} (group : f ≡ below (label c) g) (r : Bool) (z : List ℕ) (placed : placedAs r z ≡ place S code label (left - 1) t f x) where
           into-child : go c x ≡ placedAs r z
           into-child = sym (placed ∙ rw (at, group) refl)
 
-          here : intoEach go (from c codes) x ≡ intoEach go (c ∷ from (c + 1) codes) x
-          here = ap (λ (l : List ℕ). intoEach go l x) (from-hit c codes rises member)
-
-          pub turn-on : c ≤ n → not r ≡ false → (y : List ℕ) → y ≡ z → Going S code label left g n b u (c + 1) y
+          pub turn-on : not r ≡ false → (ys room′ y : List ℕ) → room′ ≡ take k room ++ ys → length room′ ≡ length room → y ≡ z → Going S code label left g k b u room₀ room′ (j + 1) y
           unfolding placedAs
-          turn-on l o y q =
+          turn-on o ys room′ y back same q =
               let went : go c x ≡ some z = into-child ∙ ap (λ (a : Bool). placedAs a z) (not-false r o) in
               rw q (record {
-                from-one = omega arith;
                 to-last = omega arith;
-                rest = going .rest ∙ here ∙ each-some go c (from (c + 1) codes) x z (going .from-one) went;
-                done = step-join wider (place-step S code label (left - 1) (slotUnder b c) (below (label c) g) x z (fresh-there .ready) went) (λ t v. inl (c, member, omega arith, v));
+                small = going .small;
+                few = going .few;
+                size = same ∙ going .size;
+                codes-are = ap (take k) back ∙ take-at (take k room) ys k (length-take-le k room (omega (arith, going .few, going .size))) ∙ going .codes-are;
+                rest = going .rest ∙ here ∙ each-some go c (drop (j + 1) codes) x z some-code went;
+                done = step-join wider (place-step S code label (left - 1) (slotUnder b c) (below (label c) g) x z (fresh-there .ready) went) (λ t v. inl (j, omega arith, v ∙ ap (slotUnder b) is));
               })
 
           pub turn-refused : not r ≡ true → (v : List ℕ) → placedAs false v ≡ place S code label left p g w
           unfolding placedAs
-          turn-refused o v = sym (left-over ∙ here ∙ each-none go c (from (c + 1) codes) x (going .from-one) (into-child ∙ ap (λ (a : Bool). placedAs a z) (not-true r o)))
+          turn-refused o v = sym (left-over ∙ here ∙ each-none go c (drop (j + 1) codes) x some-code (into-child ∙ ap (λ (a : Bool). placedAs a z) (not-true r o)))

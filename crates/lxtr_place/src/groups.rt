@@ -1,13 +1,14 @@
 // Groups of keys. The keys that pass a slot stand together in the key list, since that ascends.
 ghost use mathlib.Core.Path.{_≡_};
 ghost use Prim.Native.Nat.{_+_, _≤_, _<_};
-ghost use lib.ListN.{drop};
+ghost use lib.ListN.{take, drop};
 ghost use Rattle.lxtr_spec.specs.Labels.{lengthCount};
 ghost use Rattle.lxtr_spec.specs.KeyLists.{keyAt};
 ghost use Rattle.lxtr_spec.specs.Placing;
 ghost use Rattle.lxtr_spec.specs.Placing.{endValue};
 ghost use Rattle.lxtr_build_laws.specs.KeyLists.{WholeKey, Ascending};
-ghost use Rattle.lxtr_place.specs.Groups.{groupOf, Grouped, goesBy, skipTo, runOf};
+ghost use Rattle.lxtr_place.specs.Groups.{groupOf, Grouped, Indexed, goesBy, isUnder, runOf};
+ghost use Rattle.lxtr_place.specs.Runs.{tails};
 use lxtr_keys::key_label;
 use lxtr_keys::key_length;
 use lxtr_keys::next_key;
@@ -20,8 +21,15 @@ pub struct Group {
     pub depth: usize,
 }
 
+// A place, as the table of the places has it, for use as one.
+fn wide(place: u32) -> usize
+    ensures { λ r. ⌜ r ≡ place ⌝ }
+{
+    place as usize
+}
+
 // Whether the key at a place goes on by label x after `depth` labels.
-fn goes_by(keys: &[u8], at: usize, depth: usize, x: u32) -> bool
+pub fn goes_by(keys: &[u8], at: usize, depth: usize, x: u32) -> bool
     requires { ⌜ WholeKey (now keys) at ⌝ }
     ensures { λ r. ⌜ r ≡ goesBy x (drop depth (keyAt (now (keys .entry)) at)) ⌝ }
 {
@@ -31,30 +39,41 @@ fn goes_by(keys: &[u8], at: usize, depth: usize, x: u32) -> bool
     key_label(keys, at, depth) == x
 }
 
-// The group from its first key on that goes on by label x.
-fn skip_to(keys: &[u8], g: Group, x: u32) -> Group
-    requires { ⌜ Grouped (now keys) g ⌝ }
-    ensures { λ r. ⌜ Grouped (now (keys .entry)) r ⌝ }
-    ensures { λ r. ⌜ (r .depth ≡ g .depth) × (groupOf (now (keys .entry)) r ≡ skipTo x (groupOf (now (keys .entry)) g)) ⌝ }
+// Whether the key at a place is used up after `depth` labels, or goes on by a label below x.
+fn is_under(keys: &[u8], at: usize, depth: usize, x: u32) -> bool
+    requires { ⌜ WholeKey (now keys) at ⌝ }
+    ensures { λ r. ⌜ r ≡ isUnder x (drop depth (keyAt (now (keys .entry)) at)) ⌝ }
 {
-    let mut at = g.at;
-    let mut i: usize = 0;
-    while i < g.count {
-        if goes_by(keys, at, g.depth, x) {
-            return Group {
-                at,
-                first: g.first + i,
-                count: g.count - i,
-                depth: g.depth,
-            };
+    if key_length(keys, at) <= depth {
+        return true;
+    }
+    key_label(keys, at, depth) < x
+}
+
+// The group from its first key on that is not under x, by binary search.
+fn skip_to(keys: &[u8], starts: &[u32], g: Group, x: u32) -> Group
+    requires { ⌜ Grouped (now keys) g ⌝ }
+    requires { ⌜ Indexed (now keys) (now starts) g ⌝ }
+    requires { ⌜ Ascending (groupOf (now keys) g) ⌝ }
+    ensures { λ r. ⌜ Grouped (now (keys .entry)) r ⌝ }
+    ensures { λ r. ⌜ Indexed (now (keys .entry)) (now (starts .entry)) r ⌝ }
+    ensures { λ r. ⌜ r .depth ≡ g .depth ⌝ }
+    ensures { λ r. ⌜ Placing.below x (groupOf (now (keys .entry)) g) ≡ tails (take (runOf x (groupOf (now (keys .entry)) r)) (groupOf (now (keys .entry)) r)) ⌝ }
+{
+    let mut low: usize = 0;
+    let mut high = g.count;
+    while low < high {
+        let mid = low + (high - low) / 2;
+        if is_under(keys, wide(starts[g.first + mid]), g.depth, x) {
+            low = mid + 1;
+        } else {
+            high = mid;
         }
-        at = next_key(keys, at);
-        i += 1;
     }
     Group {
-        at,
-        first: g.first + i,
-        count: 0,
+        at: wide(starts[g.first + low]),
+        first: g.first + low,
+        count: g.count - low,
         depth: g.depth,
     }
 }
@@ -77,14 +96,16 @@ fn run_of(keys: &[u8], g: Group, x: u32) -> usize
 }
 
 // The group of the child by label x: the keys that go on by x, and what is left of them behind it.
-pub fn below(keys: &[u8], g: Group, x: u32) -> Group
+pub fn below(keys: &[u8], starts: &[u32], g: Group, x: u32) -> Group
     requires { ⌜ Grouped (now keys) g ⌝ }
+    requires { ⌜ Indexed (now keys) (now starts) g ⌝ }
     requires { ⌜ Ascending (groupOf (now keys) g) ⌝ }
     requires { ⌜ g .depth < lengthCount ⌝ }
     ensures { λ r. ⌜ Grouped (now (keys .entry)) r ⌝ }
+    ensures { λ r. ⌜ Indexed (now (keys .entry)) (now (starts .entry)) r ⌝ }
     ensures { λ r. ⌜ (r .depth ≡ g .depth + 1) × (groupOf (now (keys .entry)) r ≡ Placing.below x (groupOf (now (keys .entry)) g)) ⌝ }
 {
-    let from = skip_to(keys, g, x);
+    let from = skip_to(keys, starts, g, x);
     let count = run_of(keys, from, x);
     Group {
         at: from.at,

@@ -7,19 +7,46 @@ mod settling; // a slot's own words, and its children's
 mod placing; // a group and all below it
 
 ghost use mathlib.Core.Path.{_≡_};
+ghost use Prim.Native.Nat.{_+_, _<_};
 ghost use lib.ListN.{length};
-ghost use Rattle.lxtr_spec.specs.KeyLists.{pairsOf};
+ghost use Rattle.lxtr_spec.specs.KeyLists.{keyCount, pairsOf};
 ghost use Rattle.lxtr_spec.specs.CodeMaps.{mapOf};
 ghost use Rattle.lxtr_spec.specs.Builds.{placedIn};
 ghost use Rattle.lxtr_build_laws.specs.KeyLists.{KeysPassed};
 ghost use Rattle.lxtr_build_laws.specs.CodeTables.{CodeTables};
 ghost use Rattle.lxtr_build_laws.specs.Work.{Cleared, placedAs};
+ghost use Rattle.lxtr_place.specs.AllKeys.{StartsPut};
 use crate::groups::Group;
 use crate::placing::place;
 use crate::slots::slots_in;
+use lxtr_codes::near::NEAR;
+use lxtr_codes::near::note_all;
 use lxtr_keys::KEYS_AT;
 use lxtr_keys::key_count;
+use lxtr_keys::next_key;
 use lxtr_spec::LENGTH_COUNT;
+use lxtr_spec::MAX_KEYS;
+
+// Room for the codes of the children of all slots on the way to a slot. Each code but one at each slot leaves a key behind.
+const ROOM: usize = MAX_KEYS + LENGTH_COUNT;
+
+// Where each key starts, and behind the last one where the list ends.
+fn put_starts(keys: &[u8], starts: &mut [u32])
+    requires { ⌜ KeysPassed (now keys) ⌝ }
+    requires { ⌜ keyCount (now keys) < length (now starts) ⌝ }
+    ensures { λ _. ⌜ length (now (starts .exit)) ≡ length (now (starts .entry)) ⌝ }
+    ensures { λ _. ⌜ StartsPut (now (keys .entry)) (now (starts .exit)) (keyCount (now (keys .entry)) + 1) ⌝ }
+{
+    let count = key_count(keys);
+    let mut at: usize = KEYS_AT;
+    let mut i: usize = 0;
+    while i < count {
+        starts[i] = at as u32;
+        at = next_key(keys, at);
+        i += 1;
+    }
+    starts[i] = at as u32;
+}
 
 // Places all keys, which pass slot 1, with the tables of their code map. Answers whether each slot had a base.
 pub fn place_all(
@@ -41,13 +68,21 @@ pub fn place_all(
         depth: 0,
     };
     let slots = slots_in(work.len());
+    let mut starts = [0u32; MAX_KEYS + 1];
+    put_starts(keys, &mut starts);
+    let mut near = [0u32; NEAR];
+    note_all(labels, &mut near);
+    let mut room = [0u32; ROOM];
     place(
         keys,
+        &starts,
         labels,
+        &near,
         codes,
         order,
         work,
         slots,
+        &mut room,
         LENGTH_COUNT,
         1,
         all,

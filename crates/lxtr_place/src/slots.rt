@@ -5,8 +5,7 @@ ghost use Prim.Native.Nat.{_*_, _≤_};
 ghost use lib.Dec.{leb, ltb};
 ghost use lib.ListN.{length};
 ghost use Rattle.lxtr_spec.specs.Placing.{isFree};
-ghost use Rattle.lxtr_spec.specs.Builds.{slotsIn, isChild};
-use lxtr_image::nodes::TOP_BIT;
+ghost use Rattle.lxtr_spec.specs.Builds.{slotsIn};
 use lxtr_spec::MAX_SLOTS;
 
 // How many slots work of so many words allows.
@@ -35,15 +34,4 @@ pub fn is_free(work: &[u32], slots: usize, t: u32) -> bool
         return false;
     }
     work[2 * t as usize + 1] == 0
-}
-
-// Whether t is such a slot and has p as parent.
-pub fn is_child(work: &[u32], slots: usize, p: u32, t: u32) -> bool
-    requires { ⌜ 2 * slots ≤ length (now work) ⌝ }
-    ensures { λ r. ⌜ r ≡ isChild (now (work .entry)) slots p t ⌝ }
-{
-    if !is_slot(slots, t) {
-        return false;
-    }
-    work[2 * t as usize + 1] % TOP_BIT == p
 }

@@ -16,6 +16,7 @@ use Rattle.lxtr_build_laws.specs.UsedSlots.{used-hit, used-miss, used-low, used
 
 -- the work has room for N slots
 pub record Slots (w : List ℕ) (N : ℕ) : Type 0 where
+  pub enough : 2 ≤ N
   pub inside : 2 * N ≤ length w
   pub few : N ≤ maxSlots
 

@@ -1,26 +1,28 @@
 -- The children lists as the code writes them: each child as an entry of the children array, behind those before it; and the offsets.
-use Prim.Native.Nat.{ℕ, _+_, _*_, _^_, _≤_, _<_}
+use Prim.Native.Nat.{ℕ, zero, suc, _+_, _*_, _-_, _^_, _≤_, _<_}
 use native.Mathlib.Numerals.{add-one}
-use native.Mathlib.Nat.{zero-add}
+use native.Mathlib.Nat.{zero-add, add-zero}
 use native.Mathlib.Omega.{arith}
-use mathlib.Core.Path.{_≡_, refl, sym, ap, ap₂, _∙_}
-use mathlib.Core.List.{List, [], _∷_, _++_}
-use mathlib.Core.Bool.{Bool, true, false, _||_, not, cond}
+use mathlib.Core.Path.{_≡_, refl, sym, ap, ap₂, _∙_, subst}
+use mathlib.Core.Logic.{_≢_, ⊎-elim}
+use mathlib.Core.List.{List, [], _∷_, _++_, append-nil}
+use mathlib.Core.Bool.{Bool, true, false, _||_}
 use lib.ListN.{length, take, getD, length-append}
 use lib.Seq.{length-take-le, take-all}
 use lib.Dec.{eqb}
 use Rattle.lxtr_spec.specs.Ranges.{concatFrom}
 use Rattle.lxtr_spec.specs.Words.{leBytes, leWords}
-use Rattle.lxtr_spec.specs.Joining.{slotUnder}
+use Rattle.lxtr_spec.specs.Labels.{maxSlots}
 use Rattle.lxtr_spec.specs.Image.{topBit}
 use Rattle.lxtr_spec.specs.Placing.{baseAt}
 use Rattle.lxtr_spec.specs.Builds.{isChild, childBy, childrenOf, childrenIn, offsetsFrom}
-use Rattle.lxtr_laws.specs.Tests.{not-is-true, not-is-false}
+use Rattle.lxtr_laws.specs.Tests.{is-false, or-is-false, eqb-is-false}
 use Rattle.lxtr_laws.specs.Ranges.{concat-more, concat-front}
 use Rattle.lxtr_laws.specs.ByteOrders.{little, words-size, words-append, words-one}
 use Rattle.lxtr_laws.specs.Overlays.{over, over-length, over-none, over-over, over-comm, words-next}
-use Rattle.lxtr_build_laws.specs.ChildLists.{list-none, list-some, offsets-length, offset-at}
+use Rattle.lxtr_build_laws.specs.ChildLists.{Child, child-is, list-none, list-some, offsets-length, offset-at}
 use Rattle.lxtr_write.specs.Counting.{Slots}
+use Rattle.lxtr_write.specs.Links.{slot, First, Linked, ahead, child, first-small, child-there, next-index, next-first, next-less}
 
 -- The numbers xs were written as the entries from e on of an array that starts at a place of the output; r is the entry after them.
 pub record Put (out out′ : List ℕ) (at e r : ℕ) (xs : List ℕ) : Type 0 where
@@ -45,29 +47,30 @@ module _ (out : List ℕ) (at e : ℕ) where
         next = omega (arith, f .next, g .next, length-append xs ys);
       }
 
--- p's child by code c: r is whether the slot t is one
-module _ (w : List ℕ) (N p c t : ℕ) (r : Bool) (slot : t ≡ slotUnder (getD w (2 * p) 0) c) (is : r ≡ isChild w N p t) where
-  child-by : childBy w N p c ≡ cond r (t ∷ []) []
-  unfolding childBy baseAt
-  child-by = rw (← slot, ← is)
+-- p's child by code c, or none
+module _ (w : List ℕ) (N p c : ℕ) where
+  by-one : Child w N p (slot w p c) → childBy w N p c ≡ slot w p c ∷ []
+  unfolding childBy
+  by-one k = rw (child-is w N p (slot w p c) .1 k) refl
 
-  module _ (out : List ℕ) (at e : ℕ) where
-    pub child-not : not r ≡ true → Put out out at e e (childBy w N p c)
-    child-not h = rw (child-by, not-is-true r .0 h) (put-none out at e)
-
-    module _ (h : not r ≡ false) where
-      child-yes : childBy w N p c ≡ t ∷ []
-      child-yes = rw (not-is-false r .0 h) at child-by
-
-      pub child-room : at + 4 * (e + length (childBy w N p c)) ≤ length out → at + 4 * e + 4 ≤ length out
-      child-room l = let s = ap length child-yes in omega arith
-
-      pub child-put : (out′ : List ℕ) → out′ ≡ over out (at + 4 * e) (leBytes t) → Put out out′ at e (e + 1) (childBy w N p c)
-      child-put out′ q = rw child-yes (put-one out at e out′ t q)
+  by-none : (Child w N p (slot w p c) → ⊥) → childBy w N p c ≡ []
+  unfolding childBy
+  by-none o = rw (is-false (isChild w N p (slot w p c)) (λ e. o (child-is w N p (slot w p c) .0 e))) refl
 
 -- what f gives for the first i + 1 numbers
 one-more : (f : ℕ → List ℕ) (i : ℕ) → concatFrom (i + 1) 0 f ≡ concatFrom i 0 f ++ f i
 one-more f i = ap (λ (k : ℕ). concatFrom k 0 f) (add-one i) ∙ concat-more f i 0 ∙ ap (λ (k : ℕ). concatFrom i 0 f ++ f k) (zero-add i)
+
+-- numbers between that give nothing
+gives-none : (f : ℕ → List ℕ) (k m : ℕ) → ((e : ℕ) → k ≤ e → e < k + m → f e ≡ []) → concatFrom (k + m) 0 f ≡ concatFrom k 0 f
+gives-none f k zero o = ap (λ (n : ℕ). concatFrom n 0 f) (add-zero k)
+gives-none f k (suc m) o =
+    let e : k + suc m ≡ k + m + 1 = omega arith in
+    ap (λ (n : ℕ). concatFrom n 0 f) e
+    ∙ one-more f (k + m)
+    ∙ ap (λ (l : List ℕ). concatFrom (k + m) 0 f ++ l) (o (k + m) (omega arith) (omega arith))
+    ∙ append-nil (concatFrom (k + m) 0 f)
+    ∙ gives-none f k m (λ e l u. o e l (omega arith))
 
 -- The children of slot p by the codes before c are written; e is the entry of the next one.
 pub record ChildrenSoFar (w : List ℕ) (N p : ℕ) (out₀ : List ℕ) (at start : ℕ) (out : List ℕ) (e c : ℕ) : Type 0 where
@@ -75,7 +78,7 @@ pub record ChildrenSoFar (w : List ℕ) (N p : ℕ) (out₀ : List ℕ) (at star
   pub so-far : Put out₀ out at start e (concatFrom c 0 (childBy w N p))
 
 module _ (w : List ℕ) (N p : ℕ) (out₀ : List ℕ) (at start : ℕ) where
-  pub children-start : ChildrenSoFar w N p out₀ at start out₀ start 0
+  children-start : ChildrenSoFar w N p out₀ at start out₀ start 0
   unfolding concatFrom
   children-start = record { same-length = refl; so-far = put-none out₀ at start }
 
@@ -84,22 +87,79 @@ module _ (w : List ℕ) (N p : ℕ) (out₀ : List ℕ) (at start : ℕ) where
     children-more h =
         omega (arith, g .so-far .next, ap length (one-more (childBy w N p) c), length-append (concatFrom c 0 (childBy w N p)) (childBy w N p c), concat-front (childBy w N p) 0 (c + 1) (last + 1) (omega arith))
 
-    pub children-room : c ≤ last → at + 4 * (e + length (childBy w N p c)) ≤ length out
+    children-room : c ≤ last → at + 4 * (e + length (childBy w N p c)) ≤ length out
     children-room h = omega (arith, g .same-length, children-more h)
 
-    pub children-next : (out′ : List ℕ) (r : ℕ) → c ≤ last → length out′ ≡ length out → Put out out′ at e r (childBy w N p c) → ChildrenSoFar w N p out₀ at start out′ r (c + 1)
+    children-next : (out′ : List ℕ) (r : ℕ) → c ≤ last → length out′ ≡ length out → Put out out′ at e r (childBy w N p c) → ChildrenSoFar w N p out₀ at start out′ r (c + 1)
     children-next out′ r h l q = record {
       same-length = l ∙ g .same-length;
       so-far = rw (one-more (childBy w N p) c) (put-more out₀ at start out out′ e r (concatFrom c 0 (childBy w N p)) (childBy w N p c) (omega (arith, children-more h)) (g .so-far) q);
     }
 
-    pub children-end : c ≤ last + 1 → last < c → Put out₀ out at start e (concatFrom (last + 1) 0 (childBy w N p))
-    children-end h l = let e : c ≡ last + 1 = omega arith in rw e at (g .so-far)
+-- The children so far are written, and t is the next one by its code, or 0.
+pub record Following (w : List ℕ) (N L p : ℕ) (out₀ : List ℕ) (at start : ℕ) (out : List ℕ) (e t : ℕ) : Type 0 where
+  pub k : ℕ
+  pub so-far : ChildrenSoFar w N p out₀ at start out e k
+  pub first : First w N L p k t
+  pub small : t < maxSlots
+
+module _ (w : List ℕ) (N L : ℕ) (links : List ℕ) (s : Linked w N L N links) (slots : Slots w N) (p : ℕ) (p-from : p ≢ 0) (p-to : p < N) (out₀ : List ℕ) (at start : ℕ) where
+  pub head-inside : p < length links
+  head-inside = omega (arith, s .size)
+
+  pub follow-start : (t : ℕ) → t ≡ getD links p 0 → Following w N L p out₀ at start out₀ start t
+  follow-start t e =
+      let f : First w N L p 0 t = rw e (s .heads p (omega arith) p-to) in
+      record { k = 0; so-far = children-start w N p out₀ at start; first = f; small = first-small w N L p 0 t f (slots .few) }
+
+  module _ (room : at + 4 * (start + length (concatFrom (L + 1) 0 (childBy w N p))) ≤ length out₀) (out : List ℕ) (e t : ℕ) (g : Following w N L p out₀ at start out e t) where
+    -- no child stands between
+    at-next : ChildrenSoFar w N p out₀ at start out e (g .first .reach)
+    at-next =
+        let m : ℕ = g .first .reach - g .k in
+        let f = g .first in
+        let is : g .k + m ≡ f .reach = omega (arith, f .from) in
+        let same : concatFrom (f .reach) 0 (childBy w N p) ≡ concatFrom (g .k) 0 (childBy w N p) =
+        ap (λ (n : ℕ). concatFrom n 0 (childBy w N p)) (sym is) ∙ gives-none (childBy w N p) (g .k) m (λ e l u. by-none w N p e (f .gap e l (omega arith))) in
+        record { same-length = g .so-far .same-length; so-far = rw same (g .so-far .so-far) }
+
+    module _ (some-child : t ≢ 0) where
+      listed : (t ≡ slot w p (g .first .reach)) × (g .first .reach ≤ L) × Child w N p t
+      listed = child w N L N links s p (omega arith) p-to (g .k) t (g .first) some-child
+
+      one : childBy w N p (g .first .reach) ≡ t ∷ []
+      one = by-one w N p (g .first .reach) (child-there w N L N links s p (omega arith) p-to (g .k) t (g .first) some-child) ∙ ap (λ (x : ℕ). x ∷ []) (sym (listed .0))
+
+      pub follow-room : at + 4 * e + 4 ≤ length out
+      follow-room = omega (arith, children-room w N p out₀ at start L room out e (g .first .reach) at-next (listed .1), ap length one)
+
+      pub follow-index : maxSlots + t < length links
+      follow-index = next-index w N L N links s p (omega arith) p-to (g .k) t (g .first) some-child (slots .few)
+
+      module _ (t′ : ℕ) (next : t′ ≡ getD links (maxSlots + t) 0) where
+        pub follow-next : (out′ : List ℕ) → length out′ ≡ length out → out′ ≡ over out (at + 4 * e) (leBytes t) → Following w N L p out₀ at start out′ (e + 1) t′
+        follow-next out′ l h = record {
+          small = first-small w N L p _ t′ (next-first w N L N links s p (omega arith) p-to (g .k) t (g .first) some-child t′ next) (slots .few);
+          k = g .first .reach + 1;
+          so-far = children-next w N p out₀ at start L room out e (g .first .reach) at-next out′ (e + 1) (listed .1) l (rw one (put-one out at e out′ t h));
+          first = next-first w N L N links s p (omega arith) p-to (g .k) t (g .first) some-child t′ next;
+        }
+
+        pub follow-less : ahead (baseAt w p) L t′ < ahead (baseAt w p) L t
+        follow-less = next-less w N L N links s p (omega arith) p-to (g .k) t (g .first) some-child L t′ (listed .1) next
+
+    pub follow-end : t ≡ 0 → Put out₀ out at start e (concatFrom (L + 1) 0 (childBy w N p))
+    follow-end z =
+        let last : g .first .reach ≡ L + 1 = ⊎-elim (λ a. a .1) (λ a. absurd (omega (arith, a .2 .from))) (g .first .is) in
+        subst (λ (n : ℕ). Put out₀ out at start e (concatFrom n 0 (childBy w N p))) last (at-next .so-far)
 
 -- the list of slot p: slot 0 and an end have none
 module _ (w : List ℕ) (N L p : ℕ) where
   abbrev childless : Bool
   childless = eqb p 0 || topBit (getD w (2 * p) 0)
+
+  pub list-slot : childless ≡ false → p ≢ 0
+  list-slot h = eqb-is-false p 0 .0 (or-is-false (eqb p 0) (topBit (getD w (2 * p) 0)) .0 h .0)
 
   module _ (out : List ℕ) (at e : ℕ) where
     pub list-skipped : childless ≡ true → Put out out at e e (childrenOf w N L p)

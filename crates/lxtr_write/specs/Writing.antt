@@ -174,11 +174,11 @@ module _ (w : List ℕ) (S : ℕ) (is : S ≡ slotsIn (length w)) (room : 4 ≤ 
 
   pub slots-inside : Slots w S
   unfolding slotsIn
-  slots-inside = record { inside = omega arith; few = omega arith }
+  slots-inside = record { enough = omega arith; inside = omega arith; few = omega arith }
 
   module _ (N : ℕ) (used : N ≡ slotsUsed w S) where
     pub slots-of-image : Slots w N
-    slots-of-image = let t = used-high w S slots-enough in let i = slots-inside in record { inside = omega (arith, i .inside); few = omega (arith, i .few) }
+    slots-of-image = let t = used-high w S slots-enough in let i = slots-inside in record { enough = omega (arith, used, used-low w S); inside = omega (arith, i .inside); few = omega (arith, i .few) }
 
     pub children-counted : (labels order : List ℕ) (E : ℕ) → ImageReady w labels order → E ≡ countBelow N (isTakenFrom2 w) → Counted w N E (length order)
     children-counted labels order E r e =

@@ -1,42 +1,21 @@
 // Writes the offsets and the children lists of the filled work.
 ghost use mathlib.Core.Path.{_≡_};
 ghost use mathlib.Core.List.{_++_};
+ghost use mathlib.Core.Logic.{_≢_};
 ghost use Prim.Native.Nat.{_+_, _*_, _≤_, _<_};
 ghost use lib.ListN.{length};
 ghost use Rattle.lxtr_spec.specs.Ranges.{concatFrom};
 ghost use Rattle.lxtr_spec.specs.Words.{leWords};
-ghost use Rattle.lxtr_spec.specs.Labels.{maxListed};
 ghost use Rattle.lxtr_spec.specs.Builds.{childBy, childrenOf, childrenIn, offsetsFrom};
 ghost use Rattle.lxtr_laws.specs.Overlays.{over};
 ghost use Rattle.lxtr_write.specs.Counting.{Slots};
+ghost use Rattle.lxtr_write.specs.Links.{Linked};
 ghost use Rattle.lxtr_write.specs.Lists.{Put};
-use lxtr_image::joining::slot_under;
+use crate::links::LINK_COUNT;
+use crate::links::link_all;
 use lxtr_image::nodes::TOP_BIT;
 use lxtr_image::words::put_le32;
-use lxtr_place::slots::is_child;
-
-// Writes p's child by code c, if it has one, as entry e of the children, which start at a place. Answers the entry after it.
-fn put_child(
-    out: &mut [u8],
-    at: usize,
-    work: &[u32],
-    slots: usize,
-    p: u32,
-    c: u32,
-    e: usize,
-) -> usize
-    requires { ⌜ Slots (now work) slots ⌝ }
-    requires { ⌜ p < slots ⌝ }
-    requires { ⌜ at + 4 * (e + length (childBy (now work) slots p c)) ≤ length (now out) ⌝ }
-    ensures { λ r. ⌜ Put (now (out .entry)) (now (out .exit)) at e r (childBy (now (work .entry)) slots p c) ⌝ }
-{
-    let t = slot_under(work[2 * p as usize], c);
-    if !is_child(work, slots, p, t) {
-        return e;
-    }
-    put_le32(out, at + 4 * e, t);
-    e + 1
-}
+use lxtr_spec::MAX_SLOTS;
 
 // Writes p's children by ascending code, which goes up to `last`, as the entries from `start` on. Answers the entry after them.
 fn put_children(
@@ -45,20 +24,22 @@ fn put_children(
     work: &[u32],
     slots: usize,
     last: u32,
+    links: &[u16],
     p: u32,
     start: usize,
 ) -> usize
     requires { ⌜ Slots (now work) slots ⌝ }
-    requires { ⌜ p < slots ⌝ }
-    requires { ⌜ last ≤ maxListed ⌝ }
+    requires { ⌜ Linked (now work) slots last slots (now links) ⌝ }
+    requires { ⌜ (p ≢ 0) × (p < slots) ⌝ }
     requires { ⌜ at + 4 * (start + length (concatFrom (last + 1) 0 (childBy (now work) slots p))) ≤ length (now out) ⌝ }
     ensures { λ r. ⌜ Put (now (out .entry)) (now (out .exit)) at start r (concatFrom (last + 1) 0 (childBy (now (work .entry)) slots p)) ⌝ }
 {
     let mut e = start;
-    let mut c: u32 = 0;
-    while c <= last {
-        e = put_child(out, at, work, slots, p, c, e);
-        c += 1;
+    let mut t = links[p as usize];
+    while t != 0 {
+        put_le32(out, at + 4 * e, t as u32);
+        e += 1;
+        t = links[MAX_SLOTS + t as usize];
     }
     e
 }
@@ -70,35 +51,37 @@ fn put_list(
     work: &[u32],
     slots: usize,
     last: u32,
+    links: &[u16],
     p: u32,
     start: usize,
 ) -> usize
     requires { ⌜ Slots (now work) slots ⌝ }
+    requires { ⌜ Linked (now work) slots last slots (now links) ⌝ }
     requires { ⌜ p < slots ⌝ }
-    requires { ⌜ last ≤ maxListed ⌝ }
     requires { ⌜ at + 4 * (start + length (childrenOf (now work) slots last p)) ≤ length (now out) ⌝ }
     ensures { λ r. ⌜ Put (now (out .entry)) (now (out .exit)) at start r (childrenOf (now (work .entry)) slots last p) ⌝ }
 {
     if (p == 0) | (TOP_BIT <= work[2 * p as usize]) {
         return start;
     }
-    put_children(out, at, work, slots, last, p, start)
+    put_children(out, at, work, slots, last, links, p, start)
 }
 
 // Writes the offsets from a place on, and behind them the lists of all slots.
 pub fn put_lists(out: &mut [u8], at: usize, work: &[u32], slots: usize, last: u32)
     requires { ⌜ Slots (now work) slots ⌝ }
-    requires { ⌜ last ≤ maxListed ⌝ }
     requires { ⌜ length (childrenIn (now work) slots last) ≤ slots ⌝ }
     requires { ⌜ at + 4 * (slots + 1) + 4 * length (childrenIn (now work) slots last) ≤ length (now out) ⌝ }
     ensures { λ _. ⌜ now (out .exit) ≡ over (now (out .entry)) at (leWords (offsetsFrom (now (work .entry)) slots last slots 0 0) ++ leWords (childrenIn (now (work .entry)) slots last)) ⌝ }
 {
+    let mut links = [0u16; LINK_COUNT];
+    link_all(work, slots, last, &mut links);
     let children_at = at + 4 * (slots + 1);
     let mut e = 0;
     let mut p = 0;
     while p < slots {
         put_le32(out, at + 4 * p, e as u32);
-        e = put_list(out, children_at, work, slots, last, p as u32, e);
+        e = put_list(out, children_at, work, slots, last, &links, p as u32, e);
         p += 1;
     }
     put_le32(out, at + 4 * p, e as u32);

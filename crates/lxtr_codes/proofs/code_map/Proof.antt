@@ -10,11 +10,17 @@ pub code-map-spec : {M : Type 1} → statement M
 code-map-spec =
     tie.close
     (tie.spec
+    (λ c. search needs)
     (λ c κs. search needs)
     (λ c. search needs)
     (λ c. search too-many)
     (λ c. search needs)
     (λ c. sym (length-take-le _ _ (search needs)))
+    (λ c. search needs)
+    (λ c κs. search needs)
+    (λ c. search needs)
+    (λ c. sym (length-take-le _ _ (search needs)))
+    (λ c. search needs)
     (λ c κs. (search needs, (search labels-known, (search labels-few, search needs, search needs))))
     (λ c. search needs)
     (λ c. search needs)

@@ -2,7 +2,7 @@
 use borrow.Author.Needs.{needs}
 use native.Mathlib.Omega.{arith}
 use Rattle.lxtr_spec.specs.Labels.{maxLabels}
-use Rattle.lxtr_place.specs.AllKeys.{all-placeable, root-fresh, all-placed}
+use Rattle.lxtr_place.specs.AllKeys.{all-placeable, starts-enough, all-lent, root-fresh, all-placed}
 use Rattle.lxtr_place.proofs.place_all.Statement.{statement}
 use Rattle.lxtr_place.proofs.place_all.Tie as tie
 
@@ -13,6 +13,13 @@ place-all-spec =
     (tie.spec
     (λ c κs. search needs)
     (λ c κs. search needs)
-    (λ c κs. (search needs, (search all-placeable, (search root-fresh, omega arith))))
+    (λ c. search needs)
+    (λ c κs. (search needs, search starts-enough))
+    (λ c. search needs)
+    (λ c κs. search needs)
+    (λ c. search needs)
+    (λ c. search needs)
+    (λ c. search needs)
+    (λ c κs. (search needs, (search all-placeable, (search root-fresh, (omega arith, search all-lent)))))
     (λ c. search needs)
     (λ c. search all-placed))

@@ -1,7 +1,7 @@
--- From the first key that goes on by x the run of those is all of them.
+-- From the first key that is not under x on, the run of those that go on by x is all of them.
 use borrow.Author.Needs.{needs}
 use Rattle.lxtr_spec.specs.Labels.{maxLabels}
-use Rattle.lxtr_place.specs.GroupLoops.{below-group, below-is}
+use Rattle.lxtr_place.specs.GroupLoops.{below-group, below-started, below-is}
 use Rattle.lxtr_place.proofs.groups.below.Statement.{statement}
 use Rattle.lxtr_place.proofs.groups.below.Tie as tie
 
@@ -13,4 +13,4 @@ below-spec =
     (λ c κs. search needs)
     (λ c κs. search needs)
     (λ c. search needs)
-    (λ c. (search below-group, (search needs, search below-is))))
+    (λ c. (search below-group, (search below-started, (search needs, search below-is)))))

@@ -1,6 +1,5 @@
--- The children's codes are those of the group, and the value is that of the key that ends here.
+-- The value is that of the key that ends here.
 use borrow.Author.Needs.{needs}
-use Rattle.lxtr_place.specs.Codes.{front-size}
 use Rattle.lxtr_place.specs.GroupLoops.{value-small}
 use Rattle.lxtr_place.specs.Settling.{settle-as}
 use Rattle.lxtr_place.proofs.placing.settle_group.Statement.{statement}
@@ -10,11 +9,7 @@ pub settle-group-spec : {M : Type 1} → statement M
 settle-group-spec =
     tie.close
     (tie.spec
-    (λ c. search needs)
     (λ c κs. search needs)
-    (λ c κs. search needs)
-    (λ c. search needs)
-    (λ c. search front-size)
     (λ c κs. (search needs, (search needs, search value-small)))
     (λ c. search needs)
     (λ c. search settle-as))

@@ -1,6 +1,6 @@
 -- Slot 0 and an end leave the output as it is; the list of any other slot is its children by all codes.
 use borrow.Author.Needs.{needs}
-use Rattle.lxtr_write.specs.Lists.{list-skipped, list-room, list-put}
+use Rattle.lxtr_write.specs.Lists.{list-slot, list-skipped, list-room, list-put}
 use Rattle.lxtr_write.proofs.lists.put_list.Statement.{statement}
 use Rattle.lxtr_write.proofs.lists.put_list.Tie as tie
 
@@ -12,6 +12,6 @@ put-list-spec =
     (λ c. search needs)
     (λ c. search needs)
     (λ c. search list-skipped)
-    (λ c κs. (search needs, (search needs, (search needs, search list-room))))
+    (λ c κs. (search needs, (search needs, ((search list-slot, search needs), search list-room))))
     (λ c. search needs)
     (λ c. search list-put))
