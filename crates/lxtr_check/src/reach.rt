@@ -15,7 +15,7 @@ use lxtr_spec::LENGTH_COUNT;
 // From slots that reach slot 1 by LENGTH_COUNT or fewer steps, so many lead to slot 0.
 const STEPS: usize = LENGTH_COUNT + 1;
 
-// So many steps are made between two looks. From most slots they lead to slot 0 already, so that the first look decides.
+// So many steps are made between two tests. From most slots they lead to slot 0 already, so that the first test decides.
 const STRIDE: usize = 8;
 
 // The slot so many steps to the parent away.

@@ -8,7 +8,7 @@ ghost use Rattle.lxtr_spec.specs.CodeMaps.{contains, labelsUsed};
 ghost use Rattle.lxtr_build_laws.specs.KeyLists.{WholeKey, KeysPassed};
 ghost use Rattle.lxtr_build_laws.specs.CodeTables.{Rising, placeIn};
 ghost use Rattle.lxtr_codes.specs.Counting.{Countable, countOnce, KeyCounted, Counted};
-use crate::near::find_near;
+use crate::guesses::find_guessed;
 use lxtr_keys::KEYS_AT;
 use lxtr_keys::key_count;
 use lxtr_keys::key_label;
@@ -33,7 +33,7 @@ fn stands_earlier(keys: &[u8], at: usize, j: usize) -> bool
 }
 
 // Counts one label of a key. A key counts a label once: not again where it stands earlier in that key.
-fn count_label(labels: &[u32], near: &[u32], counts: &mut [u32], label: u32, again: bool)
+fn count_label(labels: &[u32], guesses: &[u32], counts: &mut [u32], label: u32, again: bool)
     requires { ⌜ Rising (now labels) ⌝ }
     requires { ⌜ placeIn (now labels) label < length (now counts) ⌝ }
     requires { ⌜ getD (now counts) (placeIn (now labels) label) 0 ≤ maxKeys + 1 ⌝ }
@@ -42,12 +42,12 @@ fn count_label(labels: &[u32], near: &[u32], counts: &mut [u32], label: u32, aga
     if again {
         return;
     }
-    let i = find_near(labels, near, label);
+    let i = find_guessed(labels, guesses, label);
     counts[i] += 1;
 }
 
 // Counts the labels of the key at a place.
-fn count_key(keys: &[u8], at: usize, labels: &[u32], near: &[u32], counts: &mut [u32])
+fn count_key(keys: &[u8], at: usize, labels: &[u32], guesses: &[u32], counts: &mut [u32])
     requires { ⌜ WholeKey (now keys) at ⌝ }
     requires { ⌜ Rising (now labels) ⌝ }
     requires { ⌜ Countable (keyAt (now keys) at) (now labels) (now counts) ⌝ }
@@ -58,13 +58,13 @@ fn count_key(keys: &[u8], at: usize, labels: &[u32], near: &[u32], counts: &mut 
     while j < len {
         let again = stands_earlier(keys, at, j);
         let label = key_label(keys, at, j);
-        count_label(labels, near, counts, label, again);
+        count_label(labels, guesses, counts, label, again);
         j += 1;
     }
 }
 
 // The frequency of each label, where all counts are zero at first.
-pub fn count_keys(keys: &[u8], labels: &[u32], near: &[u32], counts: &mut [u32])
+pub fn count_keys(keys: &[u8], labels: &[u32], guesses: &[u32], counts: &mut [u32])
     requires { ⌜ KeysPassed (now keys) ⌝ }
     requires { ⌜ now labels ≡ labelsUsed (pairsOf (now keys)) [] ⌝ }
     requires { ⌜ length (now labels) ≤ length (now counts) ⌝ }
@@ -76,7 +76,7 @@ pub fn count_keys(keys: &[u8], labels: &[u32], near: &[u32], counts: &mut [u32])
     let mut at: usize = KEYS_AT;
     let mut i: usize = 0;
     while i < count {
-        count_key(keys, at, labels, near, counts);
+        count_key(keys, at, labels, guesses, counts);
         at = next_key(keys, at);
         i += 1;
     }

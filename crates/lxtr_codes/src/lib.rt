@@ -2,7 +2,7 @@
 // of the codes.
 mod labels; // the labels
 mod counts; // how many keys contain each
-pub mod near; // a label looked up by a guess, also in the crate above
+pub mod guesses; // a label looked up by a guess, also in the crate above
 mod ranks; // their order and their codes
 pub mod rising; // rising numbers: the labels here, and the codes of a slot's children in the crate above
 
@@ -17,9 +17,9 @@ ghost use Rattle.lxtr_build_laws.specs.KeyLists.{KeysPassed};
 ghost use Rattle.lxtr_build_laws.specs.CodeTables.{tableSize, Mapped};
 ghost use Rattle.lxtr_codes.specs.Mapping.{CodedFront};
 use crate::counts::count_keys;
+use crate::guesses::GUESS_COUNT;
+use crate::guesses::note_all;
 use crate::labels::gather_labels;
-use crate::near::NEAR;
-use crate::near::note_all;
 use crate::ranks::assign;
 use crate::ranks::rank;
 use lxtr_spec::MAX_LISTED;
@@ -28,7 +28,7 @@ use lxtr_spec::MAX_LISTED;
 pub const TABLE_SIZE: usize = MAX_LISTED + 1;
 
 // The codes of the labels, and their order, by falling number of keys that contain them.
-fn code_labels(keys: &[u8], labels: &[u32], near: &[u32], codes: &mut [u32], order: &mut [u32])
+fn code_labels(keys: &[u8], labels: &[u32], guesses: &[u32], codes: &mut [u32], order: &mut [u32])
     requires { ⌜ KeysPassed (now keys) ⌝ }
     requires { ⌜ now labels ≡ labelsUsed (pairsOf (now keys)) [] ⌝ }
     requires { ⌜ (length (now labels) ≤ maxListed) × (length (now codes) ≡ tableSize) × (length (now order) ≡ tableSize) ⌝ }
@@ -36,7 +36,7 @@ fn code_labels(keys: &[u8], labels: &[u32], near: &[u32], codes: &mut [u32], ord
 {
     let n = labels.len();
     let mut counts = [0u32; TABLE_SIZE];
-    count_keys(keys, labels, near, &mut counts);
+    count_keys(keys, labels, guesses, &mut counts);
     rank(&counts[..n], order);
     assign(&order[..n], codes);
 }
@@ -47,12 +47,12 @@ pub fn code_map(keys: &[u8], labels: &mut [u32], codes: &mut [u32], order: &mut 
     requires { ⌜ (length (now labels) ≡ tableSize) × (length (now codes) ≡ tableSize) × (length (now order) ≡ tableSize) ⌝ }
     ensures { λ r. ⌜ Mapped (pairsOf (now (keys .entry))) (now (labels .exit)) (now (codes .exit)) (now (order .exit)) r ⌝ }
 {
-    let mut near = [0u32; NEAR];
-    let n = gather_labels(keys, labels, &mut near);
+    let mut guesses = [0u32; GUESS_COUNT];
+    let n = gather_labels(keys, labels, &mut guesses);
     if MAX_LISTED < n {
         return n;
     }
-    note_all(&labels[..n], &mut near);
-    code_labels(keys, &labels[..n], &near, codes, order);
+    note_all(&labels[..n], &mut guesses);
+    code_labels(keys, &labels[..n], &guesses, codes, order);
     n
 }

@@ -75,7 +75,7 @@ fn block_sum(image: &[u8], label: u32, i: u32) -> u32
     sum
 }
 
-// The code of a label, looked for place by place from i on.
+// The code of a label, looked for place by place, of the places from `from` on.
 fn code_from(image: &[u8], label: u32, from: u32) -> Found
     requires { ⌜ Passed (now image) ⌝ }
     requires { ⌜ from ≤ labelCount (now image) ⌝ }

@@ -1,6 +1,6 @@
 // Numbers of 32 bits in bytes.
 ghost use mathlib.Core.Path.{_≡_};
-ghost use Prim.Native.Nat.{_+_, _*_, _/_, _%_, _^_, _≤_};
+ghost use Prim.Native.Nat.{_+_, _*_, _/_, _%_, _^_, _≤_, _<_};
 ghost use lib.ListN.{length};
 ghost use Rattle.lxtr_spec.specs.Words.{le32, be32, leBytes, beBytes};
 ghost use Rattle.lxtr_laws.specs.Overlays.{over};
@@ -44,6 +44,13 @@ pub fn be32_at(s: &[u8], at: usize) -> u32
     ensures { λ r. ⌜ r ≡ be32 (now (s .entry)) at ⌝ }
 {
     high_first(s[at], s[at + 1], s[at + 2], s[at + 3])
+}
+
+// A number of 32 bits, for use as an index.
+pub fn index(x: u32) -> usize
+    ensures { λ r. ⌜ (r ≡ x) × (r < 2 ^ 32) ⌝ }
+{
+    x as usize
 }
 
 // A number as four bytes from a place on, low end first.

@@ -9,6 +9,7 @@ ghost use Rattle.lxtr_spec.specs.Placing.{endValue};
 ghost use Rattle.lxtr_build_laws.specs.KeyLists.{WholeKey, Ascending};
 ghost use Rattle.lxtr_place.specs.Groups.{groupOf, Grouped, Indexed, goesBy, isUnder, runOf};
 ghost use Rattle.lxtr_place.specs.Runs.{tails};
+use lxtr_image::words::index;
 use lxtr_keys::key_label;
 use lxtr_keys::key_length;
 use lxtr_keys::next_key;
@@ -19,13 +20,6 @@ pub struct Group {
     pub first: usize,
     pub count: usize,
     pub depth: usize,
-}
-
-// A place, as the table of the places has it, for use as one.
-fn wide(place: u32) -> usize
-    ensures { λ r. ⌜ r ≡ place ⌝ }
-{
-    place as usize
 }
 
 // Whether the key at a place goes on by label x after `depth` labels.
@@ -64,14 +58,14 @@ fn skip_to(keys: &[u8], starts: &[u32], g: Group, x: u32) -> Group
     let mut high = g.count;
     while low < high {
         let mid = low + (high - low) / 2;
-        if is_under(keys, wide(starts[g.first + mid]), g.depth, x) {
+        if is_under(keys, index(starts[g.first + mid]), g.depth, x) {
             low = mid + 1;
         } else {
             high = mid;
         }
     }
     Group {
-        at: wide(starts[g.first + low]),
+        at: index(starts[g.first + low]),
         first: g.first + low,
         count: g.count - low,
         depth: g.depth,

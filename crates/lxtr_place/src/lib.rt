@@ -19,8 +19,8 @@ ghost use Rattle.lxtr_place.specs.AllKeys.{StartsPut};
 use crate::groups::Group;
 use crate::placing::place;
 use crate::slots::slots_in;
-use lxtr_codes::near::NEAR;
-use lxtr_codes::near::note_all;
+use lxtr_codes::guesses::GUESS_COUNT;
+use lxtr_codes::guesses::note_all;
 use lxtr_keys::KEYS_AT;
 use lxtr_keys::key_count;
 use lxtr_keys::next_key;
@@ -70,14 +70,14 @@ pub fn place_all(
     let slots = slots_in(work.len());
     let mut starts = [0u32; MAX_KEYS + 1];
     put_starts(keys, &mut starts);
-    let mut near = [0u32; NEAR];
-    note_all(labels, &mut near);
+    let mut guesses = [0u32; GUESS_COUNT];
+    note_all(labels, &mut guesses);
     let mut room = [0u32; ROOM];
     place(
         keys,
         &starts,
         labels,
-        &near,
+        &guesses,
         codes,
         order,
         work,

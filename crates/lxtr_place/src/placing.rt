@@ -66,7 +66,7 @@ pub fn place(
     keys: &[u8],
     starts: &[u32],
     labels: &[u32],
-    near: &[u32],
+    guesses: &[u32],
     codes: &[u32],
     order: &[u32],
     work: &mut [u32],
@@ -86,7 +86,7 @@ pub fn place(
     if left == 0 {
         return true;
     }
-    let count = child_codes(keys, g, labels, near, codes, room);
+    let count = child_codes(keys, g, labels, guesses, codes, room);
     let fit = settle_group(keys, work, slots, p, g, &room[..count]);
     let Found::Is(base) = fit else {
         return false;
@@ -101,7 +101,7 @@ pub fn place(
                 keys,
                 starts,
                 labels,
-                near,
+                guesses,
                 codes,
                 order,
                 work,

@@ -9,10 +9,10 @@ use Rattle.lxtr_codes.proofs.counts.count_key.Statement.{statement}
 use Rattle.lxtr_codes.proofs.counts.count_key.Tie as tie
 
 abbrev Inv-loop : tie.InvT-loop
-Inv-loop keys at labels near counts₀ len j₀ counts j = KeyCounted (take j (keyAt keys at)) labels counts₀ counts
+Inv-loop keys at labels guesses counts₀ len j₀ counts j = KeyCounted (take j (keyAt keys at)) labels counts₀ counts
 
 abbrev μ-loop : tie.MeasureT-loop
-μ-loop keys at labels near counts₀ len j₀ counts j = len - j
+μ-loop keys at labels guesses counts₀ len j₀ counts j = len - j
 
 pub count-key-spec : {M : Type 1} → statement M
 count-key-spec =

@@ -9,10 +9,10 @@ use Rattle.lxtr_codes.proofs.counts.count_keys.Statement.{statement}
 use Rattle.lxtr_codes.proofs.counts.count_keys.Tie as tie
 
 abbrev Inv-loop : tie.InvT-loop
-Inv-loop keys labels near counts₀ count at₀ i₀ counts at i = (length counts ≡ length counts₀) × Counting keys count labels counts at i
+Inv-loop keys labels guesses counts₀ count at₀ i₀ counts at i = (length counts ≡ length counts₀) × Counting keys count labels counts at i
 
 abbrev μ-loop : tie.MeasureT-loop
-μ-loop keys labels near counts₀ count at₀ i₀ counts at i = count - i
+μ-loop keys labels guesses counts₀ count at₀ i₀ counts at i = count - i
 
 pub count-keys-spec : {M : Type 1} → statement M
 count-keys-spec =

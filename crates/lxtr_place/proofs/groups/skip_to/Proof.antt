@@ -30,7 +30,7 @@ skip-to-spec =
     (λ c. search needs)
     (λ c. search search-low)
     (λ c. search needs)
-    (λ c. search-high _ _ _ _ (c .before .before .before .before .before .before .before .before .before .pre .1 .0) (c .before .before .before .before .before .before .before .before .before .pre .0) _ _ (c .before .before .before .before .before .before .loop .inv) (c .before .before .before .before .before .loop-test .taken) _ (c .before .before .wide .ensures) _ (c .before .is-under .ensures) (c .if1 .left))
+    (λ c. search-high _ _ _ _ (c .before .before .before .before .before .before .before .before .before .pre .1 .0) (c .before .before .before .before .before .before .before .before .before .pre .0) _ _ (c .before .before .before .before .before .before .loop .inv) (c .before .before .before .before .before .loop-test .taken) _ (c .before .before .index .ensures .0) _ (c .before .is-under .ensures) (c .if1 .left))
     (λ c. low-sum _ _ _ _ (c .before .before .before .before .before .pre .1 .0) (c .before .before .before .before .before .pre .0) _ _ (c .before .before .loop .inv) (c .before .loop-test .left))
     (λ c. low-fits _ _ _ _ (c .before .before .before .before .before .pre .1 .0) (c .before .before .before .before .before .pre .0) _ _ (c .before .before .loop .inv) (c .before .loop-test .left))
     (λ c. low-inside _ _ _ _ (c .before .before .before .before .before .before .pre .1 .0) (c .before .before .before .before .before .before .pre .0) _ _ (c .before .before .before .loop .inv) (c .before .before .loop-test .left))
@@ -39,5 +39,5 @@ skip-to-spec =
     (λ c. inside _ _ _ _ (c .before .before .before .before .before .before .before .before .before .pre .1 .0) (c .before .before .before .before .before .before .before .before .before .pre .0) _ _ (c .before .before .before .before .before .before .loop .inv) (c .before .before .before .before .before .loop-test .left))
     (λ c.
     let h = c .before .before .before .before .before .loop-test .left in
-    let e = c .before .before .wide2 .ensures in
+    let e = c .before .before .index2 .ensures .0 in
     (found-group _ _ _ _ (c .before .before .before .before .before .before .before .before .before .pre .1 .0) (c .before .before .before .before .before .before .before .before .before .pre .0) _ _ (c .before .before .before .before .before .before .loop .inv) h _ e, (found-started _ _ _ _ (c .before .before .before .before .before .before .before .before .before .pre .1 .0) (c .before .before .before .before .before .before .before .before .before .pre .0) _ _ (c .before .before .before .before .before .before .loop .inv) h _ e, (refl, found-below _ _ _ _ (c .before .before .before .before .before .before .before .before .before .pre .1 .0) (c .before .before .before .before .before .before .before .before .before .pre .0) _ _ (c .before .before .before .before .before .before .loop .inv) h _ e (c .before .before .before .before .before .before .before .before .before .pre .1 .1))))))

@@ -54,11 +54,11 @@ told t = (
 )
 
 abbrev Inv : lts.InvT-loop
-Inv keys starts labels near codes order work₀ slots room₀ left p g count base j₀ work room j =
+Inv keys starts labels guesses codes order work₀ slots room₀ left p g count base j₀ work room j =
     Going slots (codeBy labels codes) (labelBy labels order) left (groupOf keys g) count base work₀ room₀ room j work
 
 abbrev μ : lts.MeasureT-loop
-μ keys starts labels near codes order work₀ slots room₀ left p g count base j₀ work room j = count - j
+μ keys starts labels guesses codes order work₀ slots room₀ left p g count base j₀ work room j = count - j
 
 module _ (t : ℕ) where
   -- what the loop starts from
