@@ -21,6 +21,8 @@ pub mod Queries
 pub mod Rooms
 pub mod Completions
 pub mod Demand3
+-- Where a fault lies.
+pub mod FaultPlaces
 -- The other searches.
 pub mod Probes
 pub mod Prefixes

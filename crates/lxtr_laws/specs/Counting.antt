@@ -12,7 +12,7 @@ use Rattle.lxtr_spec.specs.Ranges.{countBelow}
 use Rattle.lxtr_laws.specs.Ranges.{below-suc}
 use Rattle.lxtr_laws.specs.Tests.{and-is-true, not-is-true, eqb-is-false}
 
-count-same : (n : ℕ) (f g : ℕ → Bool) → ((i : ℕ) → i < n → f i ≡ g i) → countBelow n f ≡ countBelow n g
+pub count-same : (n : ℕ) (f g : ℕ → Bool) → ((i : ℕ) → i < n → f i ≡ g i) → countBelow n f ≡ countBelow n g
 unfolding countBelow
 count-same zero f g h = refl
 count-same (suc n) f g h = rw (count-same n f g (λ i l. h i (omega arith)), h n (le-refl (suc n)))

@@ -22,6 +22,37 @@ entry-used {b} {p} {j} e = go (e .used)
     go (inl z) = absurd (omega (arith, e .from))
     go (inr u) = u
 
+-- Offsets that don't fall, and right entries: what rule 11 leaves known before its last three parts.
+pub record EntriesRight (b : List ℕ) : Type 0 where
+  pub passed : Passed b
+  pub rising : (p : ℕ) → p < slotCount b → offset b p ≤ offset b (p + 1)
+  pub entry : (p j : ℕ) → p < slotCount b → InList b p j → EntryRight b p j
+
+module _ {b : List ℕ} (right : EntriesRight b) where
+  no-list-of-zero : offset b 1 ≡ offset b 0
+  no-list-of-zero = omega (arith, right .rising 0 some-slot, no-entry)
+    where
+      some-slot : 0 < slotCount b
+      some-slot = omega (arith, right .passed .whole .sized .slots-from)
+
+      no-entry : ¬ (offset b 0 < offset b 1)
+      no-entry h = let e = right .entry 0 (offset b 0) some-slot (record { from = le-refl (offset b 0); to = h }) in entry-used e .1 (e .up)
+
+  pub entries-sorted : ListsSorted b
+  entries-sorted = record {
+    members = λ p j f t i. let e = right .entry p j t i in (e .from, e .to, e .up);
+    ascending = λ p j f t i k. let z : j + 1 - 1 ≡ j = omega arith in rw z at (right .entry p (j + 1) t k .above (omega (arith, i .from)));
+    none-of-zero = no-list-of-zero;
+    first = right .passed .first;
+    rising = right .rising;
+  }
+
+  pub listed-used : (j : ℕ) → j < childCount b → (child b j < slotCount b) × UsedFrom2 b (child b j)
+  listed-used j h =
+      let o = list-of-place entries-sorted j (omega (arith, right .passed .last)) in
+      let e = right .entry (o .slot) j (o .to) (o .within) in
+      (e .to, entry-used e)
+
 module _ {b : List ℕ} (ok : Accepted b) where
   pub accepted-passed : Passed b
   accepted-passed =
@@ -37,29 +68,14 @@ module _ {b : List ℕ} (ok : Accepted b) where
   pub accepted-whole : Whole b
   accepted-whole = accepted-passed .whole
 
-  no-list-of-zero : offset b 1 ≡ offset b 0
-  no-list-of-zero = omega (arith, ok .lists .rising 0 some-slot, no-entry)
-    where
-      some-slot : 0 < slotCount b
-      some-slot = omega (arith, ok .framed .slots)
-
-      no-entry : ¬ (offset b 0 < offset b 1)
-      no-entry h = let e = ok .lists .entry 0 (offset b 0) some-slot (record { from = le-refl (offset b 0); to = h }) in entry-used e .1 (e .up)
+  pub accepted-entries : EntriesRight b
+  accepted-entries = record { passed = accepted-passed; rising = ok .lists .rising; entry = ok .lists .entry }
 
   pub sorted-lists : ListsSorted b
-  sorted-lists = record {
-    members = λ p j f t i. let e = ok .lists .entry p j t i in (e .from, e .to, e .up);
-    ascending = λ p j f t i k. let z : j + 1 - 1 ≡ j = omega arith in rw z at (ok .lists .entry p (j + 1) t k .above (omega (arith, i .from)));
-    none-of-zero = no-list-of-zero;
-    first = ok .first;
-    rising = ok .lists .rising;
-  }
+  sorted-lists = entries-sorted accepted-entries
 
   pub child-used : (j : ℕ) → j < childCount b → (child b j < slotCount b) × UsedFrom2 b (child b j)
-  child-used j h =
-      let o = list-of-place sorted-lists j (omega (arith, ok .last)) in
-      let e = ok .lists .entry (o .slot) j (o .to) (o .within) in
-      (e .to, entry-used e)
+  child-used = listed-used accepted-entries
 
   -- place j is in the list of slot n
   module _ (n j : ℕ) (slot : n < slotCount b) (place : InList b n j) where

@@ -122,14 +122,14 @@ module _ (b : List ℕ) where
   unfolding offsetFalls
   offsets-right = simp tests (λ h. h, λ h. h)
 
-  entry-right : (p j : ℕ) → ((entryWrong b p j || codeNotAbove b p j) ≡ false) ↔ EntryRight b p j
+  pub entry-right : (p j : ℕ) → ((entryWrong b p j || codeNotAbove b p j) ≡ false) ↔ EntryRight b p j
   unfolding entryWrong codeNotAbove
   entry-right p j = simp (used-is, tests) (
     λ ((((from, to), used), up), above). record { from = from; to = to; used = used; up = up; above = above },
     λ e. ((((e .from, e .to), e .used), e .up), e .above),
   )
 
-  entries-right : (p : ℕ) → (entriesWrong b p ≡ false) ↔ ((j : ℕ) → InList b p j → EntryRight b p j)
+  pub entries-right : (p : ℕ) → (entriesWrong b p ≡ false) ↔ ((j : ℕ) → InList b p j → EntryRight b p j)
   unfolding entriesWrong entryWrongIn
   entries-right p = simp (entry-right, tests) (
     λ h j i.

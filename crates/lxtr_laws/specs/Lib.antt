@@ -2,6 +2,7 @@
 -- and in private functions of `lxtr_complete` Accepted of Facts.
 pub mod Tests
 pub mod Ranges
+pub mod Firsts
 pub mod Refusing
 pub mod Joining
 pub mod Order
@@ -18,6 +19,7 @@ pub mod Facts
 pub mod Keys
 pub mod Steps
 pub mod Faults
+pub mod Refused
 pub mod Places
 pub mod Entries
 -- What the code computes, turn by turn and test by test, as far as several crates need it: a search for the first number that

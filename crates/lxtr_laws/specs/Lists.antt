@@ -14,7 +14,7 @@ unfolding listWidth
 in-list b p j = (λ i. (i .from, omega (arith, i .from, i .to)), λ h. record { from = h .0; to = omega arith })
 
 module _ (b : List ℕ) (rising : (p : ℕ) → p < slotCount b → offset b p ≤ offset b (p + 1)) where
-  offsets-rise : (p m : ℕ) → p + m ≤ slotCount b → offset b p ≤ offset b (p + m)
+  pub offsets-rise : (p m : ℕ) → p + m ≤ slotCount b → offset b p ≤ offset b (p + m)
   offsets-rise p zero h = rw (add-zero p) (le-refl (offset b p))
   offsets-rise p (suc m) h =
       let e : p + suc m ≡ p + m + 1 = omega arith in

@@ -4,9 +4,10 @@ use mathlib.Core.Path.{_≡_, refl, sym}
 use mathlib.Core.Bool.{Bool, true, false}
 use native.Mathlib.Numerals.{add-one}
 use native.Mathlib.Omega.{arith}
-use Rattle.lxtr_spec.specs.Ranges.{anyBelow}
+use Rattle.lxtr_spec.specs.Ranges.{anyBelow, firstBelow}
 use Rattle.lxtr_laws.specs.Tests.{outcome}
-use Rattle.lxtr_laws.specs.Ranges.{any-true}
+use Rattle.lxtr_laws.specs.Ranges.{any-true, any-false}
+use Rattle.lxtr_laws.specs.Firsts.{first-below, one-first}
 
 pub record NoneSoFar (f : ℕ → Bool) (i m : ℕ) : Type 0 where
   pub to : i ≤ m
@@ -29,3 +30,12 @@ module _ (f : ℕ → Bool) (m : ℕ) where
 
       pub scan-end : m ≤ i → false ≡ anyBelow bound f
       scan-end h = let e : i ≡ bound = omega (arith, s .to) in sym (rw e at (s .none))
+
+      -- the same where the answer is the number itself, or the bound where none passes
+      pub scan-first : (r : Bool) → i < m → r ≡ f i → r ≡ true → i ≡ firstBelow bound f
+      scan-first r h e t = one-first f bound i (firstBelow bound f) (record { to = omega arith; here = λ _. outcome r _ _ e t; none = any-false i f .0 (s .none) }) (first-below f bound)
+
+      pub scan-past : m ≤ i → m ≡ firstBelow bound f
+      scan-past h =
+          let q : i ≡ m = omega (arith, s .to) in
+          one-first f bound m (firstBelow bound f) (record { to = omega arith; here = λ l. absurd (omega arith); none = any-false m f .0 (rw q at (s .none)) }) (first-below f bound)

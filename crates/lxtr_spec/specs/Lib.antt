@@ -5,6 +5,7 @@ pub mod Labels
 pub mod Joining
 pub mod Image
 pub mod Refusals
+pub mod FaultPlaces
 pub mod Walks
 pub mod Searches
 pub mod Completions

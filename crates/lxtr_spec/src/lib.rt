@@ -31,6 +31,28 @@ pub struct Verdict {
     pub pairs: u32,
 }
 
+// Where a fault lies: the first place at which the rule of refusal 9, 10, 11 or 12 does not hold.
+pub enum Fault {
+    // accepted, or refused by 1 to 8
+    Nowhere,
+    // 9: the label's place in the code map, from 0
+    Label(u32),
+    // 10: the slot
+    Slot(u32),
+    // 11: the slot whose list ends before it begins
+    Offset(u32),
+    // 11: the slot whose list it is, and the entry's place in the children array
+    Entry(u32, u32),
+    // 11: a used slot from 2 up that no list has
+    Unlisted(u32),
+    // 11: a used slot from 2 up that is no leaf and has no child
+    Childless(u32),
+    // 11: slot 1 has no child, and its base is not 0
+    RootBase,
+    // 12: the slot
+    Unreachable(u32),
+}
+
 // The exact match.
 pub struct Exact {
     pub refusal: u8,
