@@ -2,3 +2,4 @@
 -- open Chains, in private functions of `labels`.
 pub mod Chains
 pub mod Checks
+pub mod FaultPlaces

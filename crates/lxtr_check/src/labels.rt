@@ -2,7 +2,7 @@
 // chain, so that a label is compared with the few of its chain instead of with all before it.
 ghost use mathlib.Core.Path.{_≡_};
 ghost use Prim.Native.Nat.{_+_, _<_};
-ghost use Rattle.lxtr_spec.specs.Ranges.{anyBelow};
+ghost use Rattle.lxtr_spec.specs.Ranges.{anyBelow, firstBelow};
 ghost use Rattle.lxtr_spec.specs.Image.{labelCount};
 ghost use Rattle.lxtr_spec.specs.Refusals.{sameLabel, labelWrong, labelsWrong};
 ghost use Rattle.lxtr_laws.specs.Passed.{Passed};
@@ -69,9 +69,10 @@ fn put_last(image: &[u8], i: u16, last: &mut [u16], before: &mut [u16])
     last[chain] = i + 1;
 }
 
-pub fn labels_wrong(image: &[u8]) -> bool
+// The first place with a wrong label, or L where there is none.
+pub fn first_wrong_label(image: &[u8]) -> u32
     requires { ⌜ Passed (now image) ⌝ }
-    ensures { λ r. ⌜ r ≡ labelsWrong (now (image .entry)) ⌝ }
+    ensures { λ r. ⌜ r ≡ firstBelow (labelCount (now (image .entry))) (labelWrong (now (image .entry))) ⌝ }
 {
     let count = label_count(image);
     let mut last = [0u16; CHAINS];
@@ -79,10 +80,17 @@ pub fn labels_wrong(image: &[u8]) -> bool
     let mut i: u16 = 0;
     while (i as u32) < count {
         if label_wrong(image, i, &last, &before) {
-            return true;
+            return i as u32;
         }
         put_last(image, i, &mut last, &mut before);
         i += 1;
     }
-    false
+    count
+}
+
+pub fn labels_wrong(image: &[u8]) -> bool
+    requires { ⌜ Passed (now image) ⌝ }
+    ensures { λ r. ⌜ r ≡ labelsWrong (now (image .entry)) ⌝ }
+{
+    first_wrong_label(image) < label_count(image)
 }

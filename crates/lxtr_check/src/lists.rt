@@ -2,8 +2,8 @@
 ghost use mathlib.Core.Path.{_≡_};
 ghost use mathlib.Core.Bool.{false};
 ghost use Prim.Native.Nat.{_+_, _<_};
-ghost use Rattle.lxtr_spec.specs.Ranges.{anyBelow};
-ghost use Rattle.lxtr_spec.specs.Image.{slotCount, childCount, offset};
+ghost use Rattle.lxtr_spec.specs.Ranges.{anyBelow, firstBelow};
+ghost use Rattle.lxtr_spec.specs.Image.{slotCount, childCount, offset, listWidth};
 ghost use Rattle.lxtr_spec.specs.Refusals.{offsetFalls, usedCount, entryWrong, codeNotAbove, entryWrongIn, entriesWrong, childless, rootWrong, listsWrong};
 ghost use Rattle.lxtr_laws.specs.Passed.{Whole, Passed};
 use crate::slots::is_used;
@@ -26,23 +26,31 @@ fn offset_falls(image: &[u8], p: u32) -> bool
     offset_at(image, p + 1) < offset_at(image, p)
 }
 
-fn offsets_fall(image: &[u8]) -> bool
+// The first slot at which offsets fall, or N where they do not.
+pub fn first_falling(image: &[u8]) -> u32
     requires { ⌜ Whole (now image) ⌝ }
-    ensures { λ r. ⌜ r ≡ anyBelow (slotCount (now (image .entry))) (offsetFalls (now (image .entry))) ⌝ }
+    ensures { λ r. ⌜ r ≡ firstBelow (slotCount (now (image .entry))) (offsetFalls (now (image .entry))) ⌝ }
 {
     let slots = slot_count(image);
     let mut p: u32 = 0;
     while p < slots {
         if offset_falls(image, p) {
-            return true;
+            return p;
         }
         p += 1;
     }
-    false
+    slots
+}
+
+fn offsets_fall(image: &[u8]) -> bool
+    requires { ⌜ Whole (now image) ⌝ }
+    ensures { λ r. ⌜ r ≡ anyBelow (slotCount (now (image .entry))) (offsetFalls (now (image .entry))) ⌝ }
+{
+    first_falling(image) < slot_count(image)
 }
 
 // How many used slots from 2 up there are.
-fn used_count(image: &[u8]) -> u32
+pub fn used_count(image: &[u8]) -> u32
     requires { ⌜ Whole (now image) ⌝ }
     ensures { λ r. ⌜ r ≡ usedCount (now (image .entry)) ⌝ }
 {
@@ -93,21 +101,48 @@ fn entry_wrong_in(image: &[u8], p: u32, i: u32) -> bool
     entry_wrong(image, p, j) | code_not_above(image, p, j)
 }
 
+// How many places into the list of slot p its first wrong entry is, or how wide the list is where there is none.
+pub fn first_wrong_entry(image: &[u8], p: u32) -> u32
+    requires { ⌜ Passed (now image) ⌝ }
+    requires { ⌜ anyBelow (slotCount (now image)) (offsetFalls (now image)) ≡ false ⌝ }
+    requires { ⌜ p < slotCount (now image) ⌝ }
+    ensures { λ r. ⌜ r ≡ firstBelow (listWidth (now (image .entry)) p) (entryWrongIn (now (image .entry)) p) ⌝ }
+{
+    let width = list_width(image, p);
+    let mut i: u32 = 0;
+    while i < width {
+        if entry_wrong_in(image, p, i) {
+            return i;
+        }
+        i += 1;
+    }
+    width
+}
+
 fn entries_wrong(image: &[u8], p: u32) -> bool
     requires { ⌜ Passed (now image) ⌝ }
     requires { ⌜ anyBelow (slotCount (now image)) (offsetFalls (now image)) ≡ false ⌝ }
     requires { ⌜ p < slotCount (now image) ⌝ }
     ensures { λ r. ⌜ r ≡ entriesWrong (now (image .entry)) p ⌝ }
 {
-    let width = list_width(image, p);
-    let mut i: u32 = 0;
-    while i < width {
-        if entry_wrong_in(image, p, i) {
-            return true;
+    first_wrong_entry(image, p) < list_width(image, p)
+}
+
+// The first slot whose list has a wrong entry, or N where there is none.
+pub fn first_wrong_list(image: &[u8]) -> u32
+    requires { ⌜ Passed (now image) ⌝ }
+    requires { ⌜ anyBelow (slotCount (now image)) (offsetFalls (now image)) ≡ false ⌝ }
+    ensures { λ r. ⌜ r ≡ firstBelow (slotCount (now (image .entry))) (entriesWrong (now (image .entry))) ⌝ }
+{
+    let slots = slot_count(image);
+    let mut p: u32 = 0;
+    while p < slots {
+        if entries_wrong(image, p) {
+            return p;
         }
-        i += 1;
+        p += 1;
     }
-    false
+    slots
 }
 
 fn some_entries_wrong(image: &[u8]) -> bool
@@ -115,19 +150,11 @@ fn some_entries_wrong(image: &[u8]) -> bool
     requires { ⌜ anyBelow (slotCount (now image)) (offsetFalls (now image)) ≡ false ⌝ }
     ensures { λ r. ⌜ r ≡ anyBelow (slotCount (now (image .entry))) (entriesWrong (now (image .entry))) ⌝ }
 {
-    let slots = slot_count(image);
-    let mut p: u32 = 0;
-    while p < slots {
-        if entries_wrong(image, p) {
-            return true;
-        }
-        p += 1;
-    }
-    false
+    first_wrong_list(image) < slot_count(image)
 }
 
 // A used slot from 2 up that is no leaf has no child.
-fn childless(image: &[u8], s: u32) -> bool
+pub fn childless(image: &[u8], s: u32) -> bool
     requires { ⌜ Whole (now image) ⌝ }
     requires { ⌜ s < slotCount (now image) ⌝ }
     ensures { λ r. ⌜ r ≡ childless (now (image .entry)) s ⌝ }

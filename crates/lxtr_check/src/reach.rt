@@ -4,6 +4,7 @@
 ghost use mathlib.Core.Path.{_≡_};
 ghost use mathlib.Core.Bool.{false};
 ghost use Prim.Native.Nat.{_<_};
+ghost use Rattle.lxtr_spec.specs.Ranges.{firstBelow};
 ghost use Rattle.lxtr_spec.specs.Image.{slotCount};
 ghost use Rattle.lxtr_spec.specs.Refusals.{slotsWrong, unreachable, someUnreachable};
 ghost use Rattle.lxtr_laws.specs.Passed.{Whole};
@@ -54,18 +55,27 @@ fn unreachable(image: &[u8], s: u32) -> bool
     ancestor(image, at, left) != 0
 }
 
-pub fn some_unreachable(image: &[u8]) -> bool
+// The first slot that does not reach slot 1, or N where there is none.
+pub fn first_unreachable(image: &[u8]) -> u32
     requires { ⌜ Whole (now image) ⌝ }
     requires { ⌜ slotsWrong (now image) ≡ false ⌝ }
-    ensures { λ r. ⌜ r ≡ someUnreachable (now (image .entry)) ⌝ }
+    ensures { λ r. ⌜ r ≡ firstBelow (slotCount (now (image .entry))) (unreachable (now (image .entry))) ⌝ }
 {
     let slots = slot_count(image);
     let mut s: u32 = 0;
     while s < slots {
         if unreachable(image, s) {
-            return true;
+            return s;
         }
         s += 1;
     }
-    false
+    slots
+}
+
+pub fn some_unreachable(image: &[u8]) -> bool
+    requires { ⌜ Whole (now image) ⌝ }
+    requires { ⌜ slotsWrong (now image) ≡ false ⌝ }
+    ensures { λ r. ⌜ r ≡ someUnreachable (now (image .entry)) ⌝ }
+{
+    first_unreachable(image) < slot_count(image)
 }

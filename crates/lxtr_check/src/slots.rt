@@ -1,6 +1,7 @@
 // Rule 10: a slot is wrong.
 ghost use mathlib.Core.Path.{_≡_};
 ghost use Prim.Native.Nat.{_<_};
+ghost use Rattle.lxtr_spec.specs.Ranges.{firstBelow};
 ghost use Rattle.lxtr_spec.specs.Image.{slotCount};
 ghost use Rattle.lxtr_spec.specs.Refusals.{isUsedFrom2, isUsed, bothZero, usedSlotWrong, endExists, flagWrong, slotWrong, slotsWrong};
 ghost use Rattle.lxtr_laws.specs.Passed.{Whole, Passed};
@@ -93,17 +94,25 @@ fn slot_wrong(image: &[u8], s: u32) -> bool
     used_slot_wrong(image, s) | flag_wrong(image, s)
 }
 
-pub fn slots_wrong(image: &[u8]) -> bool
+// The first wrong slot, or N where there is none.
+pub fn first_wrong_slot(image: &[u8]) -> u32
     requires { ⌜ Passed (now image) ⌝ }
-    ensures { λ r. ⌜ r ≡ slotsWrong (now (image .entry)) ⌝ }
+    ensures { λ r. ⌜ r ≡ firstBelow (slotCount (now (image .entry))) (slotWrong (now (image .entry))) ⌝ }
 {
     let slots = slot_count(image);
     let mut s: u32 = 0;
     while s < slots {
         if slot_wrong(image, s) {
-            return true;
+            return s;
         }
         s += 1;
     }
-    false
+    slots
+}
+
+pub fn slots_wrong(image: &[u8]) -> bool
+    requires { ⌜ Passed (now image) ⌝ }
+    ensures { λ r. ⌜ r ≡ slotsWrong (now (image .entry)) ⌝ }
+{
+    first_wrong_slot(image) < slot_count(image)
 }

@@ -1,30 +1,13 @@
--- Invariant: no offset before this one falls. One that does, is the answer.
+-- There is one exactly when the first is below the bound.
 use borrow.Author.Needs.{needs}
-use mathlib.Core.Path.{_≡_}
-use Prim.Native.Nat.{_-_}
-use Rattle.lxtr_spec.specs.Image.{slotCount}
-use Rattle.lxtr_spec.specs.Refusals.{offsetFalls}
-use Rattle.lxtr_laws.specs.Scans.{NoneSoFar, scan-start, scan-hit, scan-next, scan-end}
+use Rattle.lxtr_laws.specs.Firsts.{test-first}
 use Rattle.lxtr_check.proofs.lists.offsets_fall.Statement.{statement}
 use Rattle.lxtr_check.proofs.lists.offsets_fall.Tie as tie
-
-abbrev Inv-loop : tie.InvT-loop
-Inv-loop image slots p₀ p = (slots ≡ slotCount image) × NoneSoFar (offsetFalls image) p slots
-
-abbrev μ-loop : tie.MeasureT-loop
-μ-loop image slots p₀ p = slots - p
 
 pub offsets-fall-spec : {M : Type 1} → statement M
 offsets-fall-spec =
     tie.close
     (tie.spec
-    Inv-loop
-    μ-loop
     (λ c κs. search needs)
-    (λ c. (search needs, search scan-start))
     (λ c κs. search needs)
-    (λ c. search scan-hit)
-    (λ c. search needs)
-    (λ c. search needs)
-    (λ c. (search needs, search scan-next))
-    (λ c. search scan-end))
+    (λ c. search test-first))

@@ -1,31 +1,15 @@
--- Invariant: no slot before this one is wrong. One that is, is the answer.
+-- There is one exactly when the first is below the bound.
 use borrow.Author.Needs.{needs}
-use mathlib.Core.Path.{_≡_}
-use Prim.Native.Nat.{_-_}
-use Rattle.lxtr_spec.specs.Image.{slotCount}
-use Rattle.lxtr_spec.specs.Refusals.{slotWrong, slotsWrong}
-use Rattle.lxtr_laws.specs.Scans.{NoneSoFar, scan-start, scan-hit, scan-next, scan-end}
+use Rattle.lxtr_spec.specs.Refusals.{slotsWrong}
+use Rattle.lxtr_laws.specs.Firsts.{test-first}
 use Rattle.lxtr_check.proofs.slots.slots_wrong.Statement.{statement}
 use Rattle.lxtr_check.proofs.slots.slots_wrong.Tie as tie
-
-abbrev Inv-loop : tie.InvT-loop
-Inv-loop image slots s₀ s = (slots ≡ slotCount image) × NoneSoFar (slotWrong image) s slots
-
-abbrev μ-loop : tie.MeasureT-loop
-μ-loop image slots s₀ s = slots - s
 
 pub slots-wrong-spec : {M : Type 1} → statement M
 unfolding slotsWrong
 slots-wrong-spec =
     tie.close
     (tie.spec
-    Inv-loop
-    μ-loop
     (λ c κs. search needs)
-    (λ c. (search needs, search scan-start))
     (λ c κs. search needs)
-    (λ c. search scan-hit)
-    (λ c. search needs)
-    (λ c. search needs)
-    (λ c. (search needs, search scan-next))
-    (λ c. search scan-end))
+    (λ c. search test-first))
