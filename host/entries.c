@@ -1,6 +1,7 @@
 /*
  * entries: calls each function of lxtr.h on a dictionary of two words, n (value 0) and na (value 1), and then on its image with
- * one child changed in the children lists: every lookup still succeeds, and only the check and completions see the fault.
+ * one child changed in the children lists: every lookup still succeeds, and only the check, which can tell the place, and
+ * completions see the fault.
  *
  *     entries
  */
@@ -25,6 +26,12 @@ static void show(const char *what, uint64_t answer)
 	       lxtr_has_value(answer), lxtr_number(answer));
 }
 
+static void show_fault(uint64_t answer)
+{
+	printf("%-16s refusal %u, kind %u, number %" PRIu32 "\n", "fault", lxtr_refusal(answer), lxtr_fault_kind(answer),
+	       lxtr_number(answer));
+}
+
 static void show_bytes(const uint8_t *bytes, size_t length)
 {
 	for (size_t i = 0; i < length; i++)
@@ -38,6 +45,7 @@ static void show_answers(const uint8_t *image, size_t length)
 	uint8_t room[29];
 
 	show("check", lxtr_check(image, length));
+	show_fault(lxtr_fault(image, length));
 	show("exact na", lxtr_exact(image, length, text, NA));
 	show("exact (empty)", lxtr_exact(image, length, NULL, 0));
 	show("probe n", lxtr_probe(image, length, text, N));

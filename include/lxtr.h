@@ -38,7 +38,7 @@
  * Take it apart with lxtr_refusal, lxtr_more, lxtr_has_value and lxtr_number below. A part that a function does not use is 0.
  * If the refusal is 0, nothing was refused. If not, it is a number of enum lxtr_reason, all other parts are 0, and lent memory
  * is as it was (but lxtr_build clears its work: see there). If several reasons hold, the answer is the first of them in the order
- * that the function gives.
+ * that the function gives. lxtr_fault alone tells more beside a refusal.
  *
  * LAYOUT, for reading a refusal; programs need not know it
  *
@@ -114,6 +114,15 @@ enum lxtr_reason {
 	LXTR_OUT_TOO_SMALL = 23        /* the image is longer than out */
 };
 
+/* Which part of rule 11, LXTR_WRONG_LISTS, is broken: the kind of fault that lxtr_fault tells. */
+enum lxtr_list_fault {
+	LXTR_OFFSET_FALLS = 1,         /* the list of this slot ends before it begins */
+	LXTR_WRONG_ENTRY = 2,          /* this child is no child of the slot whose list has it, or its code is not above the one before */
+	LXTR_UNLISTED_SLOT = 3,        /* this used slot is in no list */
+	LXTR_CHILDLESS_SLOT = 4,       /* this used slot is no end of a key, and has no child */
+	LXTR_ROOT_BASE = 5             /* slot 1 has no child, and its base is not 0 */
+};
+
 /* The parts of an answer: the reason of a refusal, or 0; whether there is more; whether there is a value; the number. */
 static inline unsigned lxtr_refusal(uint64_t answer)
 {
@@ -135,6 +144,12 @@ static inline uint32_t lxtr_number(uint64_t answer)
 	return (uint32_t)answer;
 }
 
+/* Of an answer of lxtr_fault: a number of enum lxtr_list_fault, or 0. */
+static inline unsigned lxtr_fault_kind(uint64_t answer)
+{
+	return (unsigned)(answer >> 34 & 7);
+}
+
 /*
  * Checks an image. The number is that of its keys. Refusals: 1 to 12, in this order.
  *
@@ -144,6 +159,18 @@ static inline uint32_t lxtr_number(uint64_t answer)
  * word was found says nothing about the rest of the image.
  */
 uint64_t lxtr_check(const uint8_t *image, size_t image_length);
+
+/*
+ * Tells where the fault of an image lies that lxtr_check refuses by 9 to 12: the first place at which that rule is broken.
+ * Refusals: 9 to 12, in this order. The answer is 0 if lxtr_check refuses nothing, and also if it refuses by 1 to 8.
+ *
+ *     refusal * 2^40  +  kind * 2^34  +  number
+ *
+ * The number is, counted from 0: for 9 the place of a label in the code map; for 10 and 12 a slot; for 11 a slot, but for
+ * LXTR_WRONG_ENTRY a place among the E children. Take the kind from lxtr_fault_kind. The kinds of 11 are looked for in their
+ * order, each only where no earlier one is found.
+ */
+uint64_t lxtr_fault(const uint8_t *image, size_t image_length);
 
 /*
  * Looks a key up: whether there is a value, and the value as the number. No value for a query beyond 64 labels.

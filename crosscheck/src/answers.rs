@@ -1,10 +1,11 @@
-//! The seven functions in the archive's form: bytes and lent memory in, one
+//! The eight functions in the archive's form: bytes and lent memory in, one
 //! number out. That number is refusal * 2^40 plus what the function found.
 
 use crate::builder;
 use crate::check;
 use crate::common::{Refusal, KEY_LABELS};
 use crate::completion;
+use crate::fault;
 use crate::rules::{Rules, Wrong};
 use crate::search;
 
@@ -12,6 +13,8 @@ const REFUSAL: u64 = 1 << 40;
 /// Longer keys exist, or a listing stopped.
 const MORE: u64 = 1 << 33;
 const VALUE: u64 = 1 << 32;
+/// The parts of rule 11, numbered from 1.
+const PART: u64 = 1 << 34;
 /// Words of `places`: a length and a value for each length from 0 to 64.
 pub const PLACE_WORDS: usize = 2 * (KEY_LABELS + 1);
 
@@ -36,6 +39,12 @@ fn flag(more: bool) -> u64 {
 
 pub fn check(rules: Rules, image: &[u8]) -> u64 {
     number(check::check(rules, image), |pairs| pairs as u64)
+}
+
+pub fn fault(rules: Rules, image: &[u8]) -> u64 {
+    fault::fault(rules, image).map_or(0, |fault| {
+        u64::from(fault.refusal) * REFUSAL + u64::from(fault.part) * PART + u64::from(fault.place)
+    })
 }
 
 pub fn exact(rules: Rules, image: &[u8], query: &[u8]) -> u64 {

@@ -31,18 +31,24 @@ fn labels_right(rules: Rules, labels: &[u32]) -> bool {
 }
 
 fn slots_right(rules: Rules, image: &Image) -> bool {
+    wrong_slots(rules, image).next().is_none()
+}
+
+pub fn wrong_slots(rules: Rules, image: &Image) -> impl Iterator<Item = u32> + '_ {
     let with_end = slots_with_end(image);
-    image.nodes.iter().enumerate().all(|(slot, node)| {
+    let right = move |slot: usize| {
+        let node = image.nodes[slot];
         let words = match slot {
             0 => node.is_zero() || rules.breaks(Wrong::Slot0Ignored),
             1 => !node.is_leaf() && node.parent() == 0,
-            _ if node.parent() == 0 => unused_right(rules, *node),
+            _ if node.parent() == 0 => unused_right(rules, node),
             _ => used_right(rules, image, slot as u32),
         };
         let end_without_flag = !node.has_leaf() && rules.breaks(Wrong::HasLeafMayBeClear);
         let flag = slot == 0 || node.has_leaf() == with_end[slot] || end_without_flag;
         words && flag
-    })
+    };
+    (0..image.nodes.len()).filter(move |&slot| !right(slot)).map(|slot| slot as u32)
 }
 
 fn unused_right(rules: Rules, node: Node) -> bool {

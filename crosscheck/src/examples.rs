@@ -3,6 +3,7 @@
 use crate::answers;
 use crate::builder::image_of;
 use crate::common::{query_of, Refusal};
+use crate::fault;
 use crate::image::{CodeMap, Image, Lists, Node};
 use crate::keylist::to_bytes;
 use crate::listing;
@@ -32,6 +33,12 @@ fn words(image: &Image) -> Vec<(u32, u32)> {
 
 fn checked(image: &Image) -> u64 {
     answers::check(DOCUMENT, &image.to_bytes())
+}
+
+/// Refusal, part and place of its fault.
+fn fault(image: &Image) -> Option<(u8, u8, u32)> {
+    let fault = fault::fault(DOCUMENT, &image.to_bytes());
+    fault.map(|fault| (fault.refusal, fault.part, fault.place))
 }
 
 fn exact(image: &Image, labels: &[u32]) -> u64 {
@@ -76,6 +83,7 @@ fn p3_two_keys() {
     assert_eq!(image.map.labels, [0x6E, 0x61]);
     assert_eq!(image.to_bytes().len(), 141);
     assert_eq!(checked(&image), 2);
+    assert_eq!(fault(&image), None);
     assert_eq!(oracle::set_of(&image).map(|set| set.len()), Some(2));
 }
 
@@ -111,6 +119,7 @@ fn p7_child_twice() {
     let mut image = p3();
     image.lists.children = vec![3, 4, 4, 2];
     assert_eq!(checked(&image), refused(11));
+    assert_eq!(fault(&image), Some((11, 2, 2)));
     assert_eq!(answers::complete(DOCUMENT, &image.to_bytes(), &[], &mut [0; 100]), refused(11));
     assert_eq!(exact(&image, &[0x6E, 0x61]), VALUE + 1);
     assert_eq!(oracle::set_of(&image), None);
@@ -121,9 +130,11 @@ fn p8_wrong_slots() {
     let mut image = p3();
     image.nodes[3].check = 1;
     assert_eq!(checked(&image), refused(10));
+    assert_eq!(fault(&image), Some((10, 0, 3)));
     let mut image = p3();
     image.nodes[5].base = 7;
     assert_eq!(checked(&image), refused(10));
+    assert_eq!(fault(&image), Some((10, 0, 5)));
     assert_eq!(oracle::set_of(&image), None);
 }
 
@@ -132,6 +143,7 @@ fn p9_label_twice_and_length() {
     let mut image = p3();
     image.map = CodeMap::new(DOCUMENT, vec![0x6E, 0x6E]);
     assert_eq!(checked(&image), refused(9));
+    assert_eq!(fault(&image), Some((9, 0, 1)));
     let mut longer = p3().to_bytes();
     longer.push(0);
     assert_eq!(answers::check(DOCUMENT, &longer), refused(6));
@@ -146,7 +158,23 @@ fn p10_cycle() {
         map: CodeMap::new(DOCUMENT, vec![0x61]),
     };
     assert_eq!(checked(&image), refused(12));
+    assert_eq!(fault(&image), Some((12, 0, 2)));
     assert_eq!(oracle::set_of(&image), None);
+}
+
+#[test]
+fn faults_of_lists() {
+    let mut image = p3();
+    image.lists.offsets[1] = 4;
+    assert_eq!(fault(&image), Some((11, 1, 1)));
+    let mut image = p3();
+    image.lists = Lists { offsets: vec![0, 0, 1, 1, 2, 2, 2, 3], children: vec![3, 4, 2] };
+    assert_eq!(fault(&image), Some((11, 3, 6)));
+    image.lists.children[2] = 9;
+    assert_eq!(fault(&image), Some((11, 2, 2)));
+    let mut image = built(&[]);
+    image.nodes[1].base = 5;
+    assert_eq!(fault(&image), Some((11, 5, 1)));
 }
 
 #[test]

@@ -15,6 +15,7 @@ pub mod builder;
 pub mod check;
 pub mod common;
 pub mod completion;
+pub mod fault;
 pub mod image;
 pub mod keylist;
 pub mod listing;

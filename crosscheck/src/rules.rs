@@ -84,6 +84,10 @@ wrong_variants! {
     SixtySixSteps: "66 steps to slot 1 pass",
     CycleAccepted: "a cycle whose lists agree with its parents passes",
     UsedSlotsCounted: "the used slots are counted instead of the pairs",
+    // The place of a fault.
+    LastPlaceTold: "the last place at fault is told",
+    EntryWithinItsList: "a wrong entry is told by its place in its list",
+    UnlistedBeforeEntries: "a slot in no list is told before a wrong entry",
     // The searches.
     QueryBeforeImage: "refusal 13 is tested before 1 to 8",
     WholeCheckCompared: "the whole check word is compared with the parent",

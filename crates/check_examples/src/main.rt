@@ -1,7 +1,9 @@
 // Runs the check on document 01's examples P1 to P3 and P7 to P11, on more faults of labels, slots and lists, and on keys of 64
-// and 65 labels, and prints the answers.
+// and 65 labels, and prints the answers, with the place of the fault.
 use libc::STDOUT_FILENO;
 use lxtr_check::check;
+use lxtr_check::fault;
+use lxtr_spec::Fault;
 use sample_images::front;
 use sample_images::one_key;
 use sample_images::one_key_length;
@@ -27,7 +29,31 @@ fn show(what: &[u8], image: &[u8]) {
     }
     print(b"pairs ");
     io::print_decimal(STDOUT_FILENO, verdict.pairs as u64);
+    show_place(fault(image));
     print(b"\n");
+}
+
+// Where the fault lies, if that is known.
+fn show_place(place: Fault) {
+    match place {
+        Fault::Nowhere => {}
+        Fault::Label(i) => print_number(b", label ", i),
+        Fault::Slot(s) => print_number(b", slot ", s),
+        Fault::Offset(p) => print_number(b", falling offsets at slot ", p),
+        Fault::Entry(p, j) => {
+            print_number(b", child ", j);
+            print_number(b" in the list of slot ", p);
+        }
+        Fault::Unlisted(s) => print_number(b", unlisted slot ", s),
+        Fault::Childless(s) => print_number(b", childless slot ", s),
+        Fault::RootBase => print(b", base of slot 1"),
+        Fault::Unreachable(s) => print_number(b", unreachable slot ", s),
+    }
+}
+
+fn print_number(what: &[u8], number: u32) {
+    print(what);
+    io::print_decimal(STDOUT_FILENO, number as u64);
 }
 
 // P3 with another byte at one place, and at two.

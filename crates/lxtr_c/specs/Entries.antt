@@ -8,16 +8,18 @@ use lib.ListN.{length}
 use lib.Seq.{length-take-le}
 use Rattle.lxtr_spec.specs.Labels.{maxLabels}
 use Rattle.lxtr_spec.specs.Refusals.{unlessRefused, checkOf}
+use Rattle.lxtr_spec.specs.FaultPlaces.{faultOf}
 use Rattle.lxtr_spec.specs.Searches.{exactOf, prefixesOf, LongestAnswer, longestLength, longestOf, probeOf}
 use Rattle.lxtr_spec.specs.Completions.{CompletionAnswer, completionOf}
 use Rattle.lxtr_spec.specs.Builds.{BuildAnswer, buildOf}
 use Rattle.lxtr_spec.specs.Answers.{found, exactMeans, probeMeans}
-use Rattle.lxtr_spec.specs.HostNumbers.{hostNumber, valueNumbered, checkNumber, exactNumber, probeNumber, longestNumber, HostPrefixes, alternately, atFront, prefixesNumber, placesAfter, hostPrefixesOf, HostCompletion, completionNumber, hostCompletionOf, HostBuild, builtNumber, hostBuildOf}
+use Rattle.lxtr_spec.specs.HostNumbers.{hostNumber, valueNumbered, faultNumbered, checkNumber, faultNumber, exactNumber, probeNumber, longestNumber, HostPrefixes, alternately, atFront, prefixesNumber, placesAfter, hostPrefixesOf, HostCompletion, completionNumber, hostCompletionOf, HostBuild, builtNumber, hostBuildOf}
 use Rattle.lxtr_laws.specs.Refusing.{stands}
 use Rattle.lxtr_search.specs.Kept.{longest-bytes, longest-limit}
 use Rattle.lxtr_spec.specs.declared.Found.{Found}
 use Rattle.lxtr_spec.specs.declared.Found.the-variants.{Is, Nothing}
 use Rattle.lxtr_spec.specs.declared.Verdict.{Verdict}
+use Rattle.lxtr_spec.specs.declared.Fault.{Fault}
 use Rattle.lxtr_spec.specs.declared.Exact.{Exact}
 use Rattle.lxtr_spec.specs.declared.Prefixes.{Prefixes}
 use Rattle.lxtr_spec.specs.declared.Probe.{Probe}
@@ -34,7 +36,15 @@ module _ (k : ℕ) (more : Bool) (f : Found) (n : ℕ) where
   unfolding valueNumbered
   none-number h e = rw h e
 
+-- of a fault, by its case
+pub fault-case : (f g : Fault) (n : ℕ) → f ≡ g → n ≡ faultNumbered g → n ≡ faultNumbered f
+fault-case f g n e h = rw e h
+
 module _ (b : List ℕ) where
+  pub fault-number : (f : Fault) (n : ℕ) → f ≡ faultOf b → n ≡ faultNumbered f → n ≡ faultNumber b
+  unfolding faultNumber
+  fault-number f n e h = rw (← e) h
+
   pub check-number : (v : Verdict) (n : ℕ) → v ≡ checkOf b → n ≡ hostNumber (v .refusal) false false (v .pairs) → n ≡ checkNumber b
   unfolding checkNumber
   check-number v n e h = rw (← e) h

@@ -4,12 +4,14 @@ mod numbers; // the number that an operation answers
 mod places; // the matches of prefixes as words
 
 ghost use mathlib.Core.Path.{_≡_};
-ghost use Rattle.lxtr_spec.specs.HostNumbers.{checkNumber, exactNumber, probeNumber, longestNumber, hostPrefixesOf, hostCompletionOf, hostBuildOf};
+ghost use Rattle.lxtr_spec.specs.HostNumbers.{checkNumber, faultNumber, exactNumber, probeNumber, longestNumber, hostPrefixesOf, hostCompletionOf, hostBuildOf};
+use crate::numbers::fault_numbered;
 use crate::numbers::host_number;
 use crate::numbers::value_numbered;
 use crate::places::put_places;
 use lxtr_build::build;
 use lxtr_check::check;
+use lxtr_check::fault;
 use lxtr_complete::complete;
 use lxtr_search::exact;
 use lxtr_search::longest;
@@ -24,6 +26,14 @@ pub extern "C" fn lxtr_check(image: &[u8]) -> u64
 {
     let verdict = check(image);
     host_number(verdict.refusal, false, false, verdict.pairs)
+}
+
+// The place of a fault: for refusals 9 to 12.
+#[no_mangle]
+pub extern "C" fn lxtr_fault(image: &[u8]) -> u64
+    ensures { λ r. ⌜ r ≡ faultNumber (now (image .entry)) ⌝ }
+{
+    fault_numbered(fault(image))
 }
 
 // Exact: the value, if there is one.

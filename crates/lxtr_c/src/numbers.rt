@@ -1,15 +1,18 @@
 // The number that an operation answers a host program.
 ghost use mathlib.Core.Path.{_≡_};
-ghost use Rattle.lxtr_spec.specs.HostNumbers.{hostNumber, valueNumbered};
+ghost use Rattle.lxtr_spec.specs.HostNumbers.{hostNumber, valueNumbered, placeNumber, faultNumbered};
 ghost use Rattle.lxtr_spec.specs.Answers.{found};
+use lxtr_spec::Fault;
 use lxtr_spec::Found;
 
-// What one refusal, the mark for more, and the mark for a value add.
+// What one refusal, the mark for more, the mark for a value, and one kind of fault add.
 const REFUSAL: u64 = 0x100_0000_0000;
 
 const MORE: u64 = 0x2_0000_0000;
 
 const VALUE: u64 = 0x1_0000_0000;
+
+const KIND: u64 = 0x4_0000_0000;
 
 // The number of a refusal, the two marks, and a value, a count or a length.
 pub fn host_number(refusal: u8, more: bool, valued: bool, n: u32) -> u64
@@ -25,5 +28,29 @@ pub fn value_numbered(refusal: u8, more: bool, value: Found) -> u64
     match value {
         Found::Is(v) => host_number(refusal, more, true, v),
         Found::Nothing => host_number(refusal, more, false, 0),
+    }
+}
+
+// The number of a place at fault.
+fn place_number(refusal: u8, kind: u8, place: u32) -> u64
+    ensures { λ r. ⌜ r ≡ placeNumber refusal kind place ⌝ }
+{
+    refusal as u64 * REFUSAL + kind as u64 * KIND + place as u64
+}
+
+// The number of where a fault lies.
+pub fn fault_numbered(fault: Fault) -> u64
+    ensures { λ r. ⌜ r ≡ faultNumbered fault ⌝ }
+{
+    match fault {
+        Fault::Nowhere => 0,
+        Fault::Label(i) => place_number(9, 0, i),
+        Fault::Slot(s) => place_number(10, 0, s),
+        Fault::Offset(p) => place_number(11, 1, p),
+        Fault::Entry(_, j) => place_number(11, 2, j),
+        Fault::Unlisted(s) => place_number(11, 3, s),
+        Fault::Childless(s) => place_number(11, 4, s),
+        Fault::RootBase => place_number(11, 5, 1),
+        Fault::Unreachable(s) => place_number(12, 0, s),
     }
 }

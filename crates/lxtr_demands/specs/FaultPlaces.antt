@@ -54,6 +54,9 @@ Right b (Childless s) = (imageRefusal b ≡ 11) × AllListed b × First (slotCou
 Right b RootBase = (imageRefusal b ≡ 11) × AllListed b × None (slotCount b) (childless b) × (rootWrong b ≡ true)
 Right b (Unreachable s) = (imageRefusal b ≡ 12) × First (slotCount b) (unreachable b) s
 
--- for all bytes
-abbrev pub FaultRight : Type 0
-FaultRight = (b : List ℕ) → Right b (faultOf b)
+-- what holds of any bytes b
+pub record FaultRight (b : List ℕ) : Type 0 where
+  -- The answer is right,
+  pub right : Right b (faultOf b)
+  -- and no other is.
+  pub only : (f : Fault) → Right b f → f ≡ faultOf b

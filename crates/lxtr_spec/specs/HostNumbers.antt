@@ -1,5 +1,5 @@
 -- Document 01, "The searches": the one 64-bit number by which an operation answers a host program in C.
--- Document 01 has check, exact, probe and the length of longest; prefixes, completions and building follow in the same manner.
+-- Document 01 has check, exact, probe and the length of longest; the place of a fault, prefixes, completions and building follow in the same manner.
 use Prim.Native.Nat.{ℕ, _+_, _*_, _^_}
 use mathlib.Core.List.{List, [], _∷_, _++_}
 use mathlib.Core.Option.{Option, some, none}
@@ -8,9 +8,12 @@ use lib.ListN.{length, take, drop, getD}
 use Rattle.lxtr_spec.specs.Ranges.{concatFrom}
 use Rattle.lxtr_spec.specs.Labels.{lengthCount}
 use Rattle.lxtr_spec.specs.Refusals.{unlessRefused, checkOf}
+use Rattle.lxtr_spec.specs.FaultPlaces.{faultOf}
 use Rattle.lxtr_spec.specs.Searches.{searchRefusal, exactOf, prefixesOf, longestLength, probeOf}
 use Rattle.lxtr_spec.specs.Completions.{completionOf}
 use Rattle.lxtr_spec.specs.Builds.{buildOf}
+use Rattle.lxtr_spec.specs.declared.Fault.{Fault}
+use Rattle.lxtr_spec.specs.declared.Fault.the-variants.{Nowhere, Label, Slot, Offset, Entry, Unlisted, Childless, RootBase, Unreachable}
 use Rattle.lxtr_spec.specs.declared.Prefixes.{Prefixes}
 use Rattle.lxtr_spec.specs.declared.Completion.{Completion}
 use Rattle.lxtr_spec.specs.declared.Built.{Built}
@@ -37,7 +40,26 @@ probeNumber b q = valueNumbered (probeOf b q .refusal) (probeOf b q .longer) (pr
 unfoldable pub longestNumber : List ℕ → List ℕ → ℕ
 longestNumber b q = hostNumber (searchRefusal b q) false false (longestLength b q)
 
--- Not in document 01, which gives these no number: the number, with what the lent memory holds afterwards.
+-- Not in document 01, which gives these no number: the number, and what the lent memory holds afterwards.
+
+-- Where a fault lies: its refusal, for refusal 11 the kind of fault, and the place.
+unfoldable pub placeNumber : ℕ → ℕ → ℕ → ℕ
+placeNumber k kind place = k * 2 ^ 40 + kind * 2 ^ 34 + place
+
+-- an entry by its place in the children array
+unfoldable pub faultNumbered : Fault → ℕ
+faultNumbered Nowhere = 0
+faultNumbered (Label i) = placeNumber 9 0 i
+faultNumbered (Slot s) = placeNumber 10 0 s
+faultNumbered (Offset p) = placeNumber 11 1 p
+faultNumbered (Entry p j) = placeNumber 11 2 j
+faultNumbered (Unlisted s) = placeNumber 11 3 s
+faultNumbered (Childless s) = placeNumber 11 4 s
+faultNumbered RootBase = placeNumber 11 5 1
+faultNumbered (Unreachable s) = placeNumber 12 0 s
+
+unfoldable pub faultNumber : List ℕ → ℕ
+faultNumber b = faultNumbered (faultOf b)
 
 -- Prefixes: the count; in lent words length and value alternately, shortest first.
 pub record HostPrefixes : Type 0 where

@@ -1,4 +1,4 @@
--- The answer of `fault` is right. Of a rule that is not kept, the first place of the search is below the bound and none before it fails.
+-- The answer of `fault` is right, and no other is. Of a rule that is not kept, the first place of the search is below the bound and none before it fails.
 -- What takes a count: where offsets don't fall and entries are right, E differs from the used slots exactly when one of these is unlisted.
 use Prim.Native.Nat.{ℕ, _+_, _-_, _≤_, _<_}
 use native.Mathlib.Omega.{arith}
@@ -8,17 +8,17 @@ use mathlib.Core.Logic.{_≢_}
 use mathlib.Core.List.{List}
 use mathlib.Core.Bool.{Bool, true, false, not, true≢false}
 use lib.Dec.{eqb}
-use borrow.Author.Tests.{eqb-true, eqb-false, eq-eqb}
+use borrow.Author.Tests.{eqb-true, eqb-false, eq-eqb, ne-eqb}
 use Rattle.lxtr_spec.specs.Ranges.{anyBelow, firstBelow}
 use Rattle.lxtr_spec.specs.Image.{slotCount, childCount, parent, offset, child, listWidth}
 use Rattle.lxtr_spec.specs.Refusals.{labelsWrong, slotsWrong, isUsedFrom2, offsetFalls, usedCount, entryWrongIn, entriesWrong, childless, rootWrong, listsWrong, someUnreachable, imageRefusal}
 use Rattle.lxtr_spec.specs.FaultPlaces.{faultIf, labelFault, slotFault, offsetFault, entryFaultOf, entryFault, isEntry, unlisted, unlistedFault, childlessFault, listFault, reachFault, faultBy, faultOf}
 use Rattle.lxtr_spec.specs.Sets.{InList}
 use Rattle.lxtr_spec.specs.declared.Fault.{Fault}
-use Rattle.lxtr_spec.specs.declared.Fault.the-variants.{RootBase}
+use Rattle.lxtr_spec.specs.declared.Fault.the-variants.{Nowhere, Label, Slot, Offset, Entry, Unlisted, Childless, RootBase, Unreachable}
 use Rattle.lxtr_laws.specs.Tests.{is-false, and-is-true, and-is-false, not-is-true, not-is-false}
 use Rattle.lxtr_laws.specs.Ranges.{any-true, any-false}
-use Rattle.lxtr_laws.specs.Firsts.{first-below, some-first}
+use Rattle.lxtr_laws.specs.Firsts.{first-below, one-first, some-first}
 use Rattle.lxtr_laws.specs.Passed.{Passed}
 use Rattle.lxtr_laws.specs.Lists.{in-list, offsets-rise, in-children}
 use Rattle.lxtr_laws.specs.Facts.{UsedFrom2}
@@ -35,7 +35,23 @@ first-is n f e =
     let r = first-below f n in
     record { below = h; here = r .here h; none-before = r .none }
 
+-- and it is the only one
+first-only : (n : ℕ) (f : ℕ → Bool) (i : ℕ) → First n f i → firstBelow n f ≡ i
+first-only n f i h = one-first f n (firstBelow n f) i (first-below f n) (record { to = omega (arith, h .below); here = λ l. h .here; none = h .none-before })
+
+some-of : (n : ℕ) (f : ℕ → Bool) (i : ℕ) → First n f i → anyBelow n f ≡ true
+some-of n f i h = any-true n f .1 (i, h .below, h .here)
+
 module _ (b : List ℕ) where
+  none-falls : OffsetsRise b → anyBelow (slotCount b) (offsetFalls b) ≡ false
+  none-falls = any-false (slotCount b) (offsetFalls b) .1
+
+  -- the list of an earlier slot ends before that of a later one begins
+  lists-apart : OffsetsRise b → (p q : ℕ) → p < q → q < slotCount b → offset b (p + 1) ≤ offset b q
+  lists-apart rise p q l h =
+      let e : p + 1 + (q - (p + 1)) ≡ q = omega arith in
+      rw e at (offsets-rise b (offsets-right b .0 (none-falls rise)) (p + 1) (q - (p + 1)) (omega arith))
+
   -- entry j of a list, which is so many places into it
   faulty-at : (p j : ℕ) (t : Bool) → InList b p j → entryWrongIn b p (j - offset b p) ≡ t → entryFaulty b p j ≡ t
   unfolding entryWrongIn
@@ -55,17 +71,11 @@ module _ (b : List ℕ) where
       within : InList b p (offset b p + i)
       within = in-list b p (offset b p + i) .1 (omega arith, omega (arith, inside .below))
 
-      rising : (q : ℕ) → q < slotCount b → offset b q ≤ offset b (q + 1)
-      rising = offsets-right b .0 (any-false (slotCount b) (offsetFalls b) .1 rise)
-
       before : (q k : ℕ) → q < slotCount b → InList b q k → k < offset b p + i → Dec (q < p) → Dec (p < q) → entryFaulty b q k ≡ false
       before q k h l m (yes u) d =
           let none = any-false (listWidth b q) (entryWrongIn b q) .0 (list .none-before q u) (k - offset b q) in
           faulty-at q k false l (none (omega (arith, in-list b q k .0 l)))
-      before q k h l m (no u) (yes v) =
-          let e : p + 1 + (q - (p + 1)) ≡ q = omega arith in
-          let rise : offset b (p + 1) ≤ offset b q = rw e at (offsets-rise b rising (p + 1) (q - (p + 1)) (omega arith)) in
-          absurd (omega (arith, l .from, within .to))
+      before q k h l m (no u) (yes v) = absurd (omega (arith, l .from, within .to, lists-apart rise p q v h))
       before q k h l m (no u) (no v) =
           let e : q ≡ p = omega arith in
           rw e (faulty-at p k false (rw e at l) (inside .none-before (k - offset b p) (omega (arith, (rw e at l) .from))))
@@ -133,12 +143,62 @@ module _ (b : List ℕ) where
           → anyBelow (slotCount b) (childless b) ≡ false → listsWrong b ≡ true → rootWrong b ≡ true
       root rise right same lone e = unfold listsWrong in (rw (rise, right, same, lone) at e)
 
-pub fault-right : FaultRight
-unfolding faultOf faultBy labelFault slotFault reachFault labelsWrong slotsWrong someUnreachable
-fault-right b =
-    let k = imageRefusal b in
-    either b (eqb k 9) (labelFault b) _ (λ t. let e = eqb-true k 9 t in (e, first-is _ _ (refused-9 b e))) (λ not-9.
-    either b (eqb k 10) (slotFault b) _ (λ t. let e = eqb-true k 10 t in (e, first-is _ _ (refused-10 b e))) (λ not-10.
-    either b (eqb k 11) (listFault b) _ (λ t. list-right b (eqb-true k 11 t)) (λ not-11.
-    either b (eqb k 12) (reachFault b) _ (λ t. let e = eqb-true k 12 t in (e, first-is _ _ (refused-12 b e))) (λ not-12.
-    omega (arith, refusal-most b, eqb-false k 9 not-9, eqb-false k 10 not-10, eqb-false k 11 not-11, eqb-false k 12 not-12)))))
+  answer-right : Right b (faultOf b)
+  unfolding faultOf faultBy labelFault slotFault reachFault labelsWrong slotsWrong someUnreachable
+  answer-right =
+      let k = imageRefusal b in
+      either (eqb k 9) (labelFault b) _ (λ t. let e = eqb-true k 9 t in (e, first-is _ _ (refused-9 b e))) (λ not-9.
+      either (eqb k 10) (slotFault b) _ (λ t. let e = eqb-true k 10 t in (e, first-is _ _ (refused-10 b e))) (λ not-10.
+      either (eqb k 11) (listFault b) _ (λ t. list-right (eqb-true k 11 t)) (λ not-11.
+      either (eqb k 12) (reachFault b) _ (λ t. let e = eqb-true k 12 t in (e, first-is _ _ (refused-12 b e))) (λ not-12.
+      omega (arith, refusal-most b, eqb-false k 9 not-9, eqb-false k 10 not-10, eqb-false k 11 not-11, eqb-false k 12 not-12)))))
+
+  -- Conversely: what an answer says decides the tests by which the definition goes.
+  none-wrong : EntriesHold b → anyBelow (slotCount b) (entriesWrong b) ≡ false
+  unfolding entriesWrong entryWrongIn
+  none-wrong h = any-false (slotCount b) (entriesWrong b) .1 (λ p l. any-false (listWidth b p) (entryWrongIn b p) .1 (λ i m. h .1 p (offset b p + i) l (in-list b p (offset b p + i) .1 (omega arith, omega arith))))
+
+  module _ (rise : OffsetsRise b) (p j : ℕ) (e : FirstEntry b p j) where
+    place-in : First (listWidth b p) (entryWrongIn b p) (j - offset b p)
+    unfolding entryWrongIn
+    place-in =
+        let k : offset b p + (j - offset b p) ≡ j = omega (arith, e .within .from) in
+        record {
+          below = omega (arith, in-list b p j .0 (e .within));
+          here = rw k (e .here);
+          none-before = λ i l. e .none-before p (offset b p + i) (e .slot) (in-list b p (offset b p + i) .1 (omega arith, omega (arith, in-list b p j .0 (e .within)))) (omega arith);
+        }
+
+    list-of : First (slotCount b) (entriesWrong b) p
+    unfolding entriesWrong entryWrongIn
+    list-of = record {
+      below = e .slot;
+      here = some-of (listWidth b p) (entryWrongIn b p) (j - offset b p) place-in;
+      none-before = λ q l. any-false (listWidth b q) (entryWrongIn b q) .1 (λ i m.
+          let within = in-list b q (offset b q + i) .1 (omega arith, omega arith) in
+          e .none-before q (offset b q + i) (omega (arith, e .slot)) within (omega (arith, within .to, lists-apart rise q p l (e .slot), e .within .from)));
+    }
+
+    entry-only : Entry p j ≡ entryFault b
+    unfolding entryFault entryFaultOf
+    entry-only =
+        let k : offset b p + (j - offset b p) ≡ j = omega (arith, e .within .from) in
+        rw (first-only _ _ p list-of, first-only _ _ (j - offset b p) place-in, k)
+
+  answer-only : (f : Fault) → Right b f → f ≡ faultOf b
+  unfolding faultOf faultBy faultIf labelFault slotFault listFault offsetFault unlistedFault childlessFault reachFault
+  answer-only Nowhere h =
+      let k = imageRefusal b in
+      rw (ne-eqb k 9 (λ z. omega arith), ne-eqb k 10 (λ z. omega arith), ne-eqb k 11 (λ z. omega arith), ne-eqb k 12 (λ z. omega arith))
+  answer-only (Label i) (e, h) = rw (e, first-only _ _ i h)
+  answer-only (Slot s) (e, h) = rw (e, first-only _ _ s h)
+  answer-only (Offset p) (e, h) = rw (e, some-of _ _ p h, first-only _ _ p h)
+  answer-only (Entry p j) (e, rise, h) = rw (e, none-falls rise, some-of _ _ p (list-of rise p j h)) (entry-only rise p j h)
+  answer-only (Unlisted s) (e, hold, differs, h) = rw (e, none-falls (hold .0), none-wrong hold, ne-eqb (childCount b) (usedCount b) differs, first-only _ _ s h)
+  answer-only (Childless s) (e, (hold, same, _), h) = rw (e, none-falls (hold .0), none-wrong hold, eq-eqb (childCount b) (usedCount b) same, some-of _ _ s h, first-only _ _ s h)
+  answer-only RootBase (e, (hold, same, _), none, _) =
+      rw (e, none-falls (hold .0), none-wrong hold, eq-eqb (childCount b) (usedCount b) same, any-false (slotCount b) (childless b) .1 none)
+  answer-only (Unreachable s) (e, h) = rw (e, first-only _ _ s h)
+
+pub fault-right : (b : List ℕ) → FaultRight b
+fault-right b = record { right = answer-right b; only = answer-only b }

@@ -9,6 +9,7 @@ use std::process::{Command, Stdio};
 #[link(name = "lxtr_c", kind = "static")]
 extern "C" {
     fn lxtr_check(image: *const u8, image_len: usize) -> u64;
+    fn lxtr_fault(image: *const u8, image_len: usize) -> u64;
     fn lxtr_exact(image: *const u8, image_len: usize, query: *const u8, query_len: usize) -> u64;
     fn lxtr_probe(image: *const u8, image_len: usize, query: *const u8, query_len: usize) -> u64;
     fn lxtr_longest(image: *const u8, image_len: usize, query: *const u8, query_len: usize) -> u64;
@@ -118,6 +119,7 @@ impl Archive {
         unsafe {
             match call {
                 Call::Check { .. } => lxtr_check(a, a_len),
+                Call::Fault { .. } => lxtr_fault(a, a_len),
                 Call::Exact { .. } => lxtr_exact(a, a_len, b, b_len),
                 Call::Probe { .. } => lxtr_probe(a, a_len, b, b_len),
                 Call::Longest { .. } => lxtr_longest(a, a_len, b, b_len),

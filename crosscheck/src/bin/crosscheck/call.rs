@@ -8,6 +8,7 @@ use crosscheck::{answers, listing};
 #[derive(Clone, Copy, Debug, PartialEq, Eq)]
 pub enum Function {
     Check,
+    Fault,
     Exact,
     Probe,
     Longest,
@@ -18,8 +19,9 @@ pub enum Function {
 }
 
 impl Function {
-    pub const ALL: [Function; 8] = [
+    pub const ALL: [Function; 9] = [
         Function::Check,
+        Function::Fault,
         Function::Exact,
         Function::Probe,
         Function::Longest,
@@ -30,14 +32,15 @@ impl Function {
     ];
 
     pub fn name(self) -> &'static str {
-        ["check", "exact", "probe", "longest", "prefixes", "complete", "build", "list"]
+        ["check", "fault", "exact", "probe", "longest", "prefixes", "complete", "build", "list"]
             [self as usize]
     }
 
-    /// Whether document 01 says that this function can give this refusal.
+    /// Whether this function can give this refusal.
     pub fn can_refuse(self, number: usize) -> bool {
         match self {
             Function::Check => (1..=12).contains(&number),
+            Function::Fault => (9..=12).contains(&number),
             Function::Complete => (1..=14).contains(&number),
             Function::Build => (15..=23).contains(&number),
             Function::List => (15..=23).contains(&number) && number != 21,
@@ -50,6 +53,7 @@ impl Function {
 #[derive(Clone, Copy)]
 pub enum Call<'a> {
     Check { image: &'a [u8] },
+    Fault { image: &'a [u8] },
     Exact { image: &'a [u8], query: &'a [u8] },
     Probe { image: &'a [u8], query: &'a [u8] },
     Longest { image: &'a [u8], query: &'a [u8] },
@@ -63,6 +67,7 @@ impl<'a> Call<'a> {
     pub fn function(&self) -> Function {
         match self {
             Call::Check { .. } => Function::Check,
+            Call::Fault { .. } => Function::Fault,
             Call::Exact { .. } => Function::Exact,
             Call::Probe { .. } => Function::Probe,
             Call::Longest { .. } => Function::Longest,
@@ -76,7 +81,7 @@ impl<'a> Call<'a> {
     /// The read-only inputs; the second is empty where there is none.
     pub fn inputs(&self) -> (&'a [u8], &'a [u8]) {
         match *self {
-            Call::Check { image } => (image, &[]),
+            Call::Check { image } | Call::Fault { image } => (image, &[]),
             Call::Exact { image, query }
             | Call::Probe { image, query }
             | Call::Longest { image, query } => (image, query),
@@ -102,6 +107,7 @@ impl<'a> Call<'a> {
         self.prepare(lent);
         match *self {
             Call::Check { image } => answers::check(rules, image),
+            Call::Fault { image } => answers::fault(rules, image),
             Call::Exact { image, query } => answers::exact(rules, image, query),
             Call::Probe { image, query } => answers::probe(rules, image, query),
             Call::Longest { image, query } => answers::longest(rules, image, query),

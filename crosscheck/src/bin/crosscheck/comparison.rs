@@ -122,10 +122,15 @@ impl Comparison {
         }
     }
 
+    /// Compares the check of an image and the place of its fault; gives the check's answer.
+    pub fn check(&mut self, image: &[u8]) -> u64 {
+        self.call(Call::Fault { image });
+        self.call(Call::Check { image })
+    }
+
     /// Compares the check of an image, and holds its answer against the set oracle.
     pub fn image(&mut self, image: &[u8]) -> u64 {
-        let check = Call::Check { image };
-        let answer = self.call(check);
+        let answer = self.check(image);
         let Ok(parsed) = Image::parse(Rules::DOCUMENT, image) else {
             return answer;
         };
@@ -138,7 +143,11 @@ impl Comparison {
             None if answer >> 40 != 0 => {}
             set => {
                 self.require(false, "the set oracle decides otherwise");
-                self.show(&check, answer, set.map_or(u64::MAX, |set| set.len() as u64));
+                self.show(
+                    &Call::Check { image },
+                    answer,
+                    set.map_or(u64::MAX, |set| set.len() as u64),
+                );
             }
         }
         answer

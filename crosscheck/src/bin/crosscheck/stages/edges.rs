@@ -76,7 +76,7 @@ fn many_slots(comparison: &mut Comparison, random: &mut Random, slots: usize) {
     comparison.image(&bytes);
     search(comparison, &bytes, &query_of(&[0x6E, 0x61]), 130);
     comparison.call(Call::Complete { image: &bytes, prefix: &[], room: 100 });
-    comparison.call(Call::Check { image: &bytes[..bytes.len() - 1] });
+    comparison.check(&bytes[..bytes.len() - 1]);
     for slot in [slots / 2, slots - 1] {
         let mut spoilt = image.clone();
         spoilt.nodes[slot].base = 7;

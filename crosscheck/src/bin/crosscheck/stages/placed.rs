@@ -47,7 +47,7 @@ fn same_set_elsewhere(comparison: &mut Comparison, random: &mut Random, keys: &[
     for _ in 0..2 {
         let image = placed(random, &pairs);
         let bytes = image.to_bytes();
-        let answer = comparison.call(Call::Check { image: &bytes });
+        let answer = comparison.check(&bytes);
         comparison
             .require(answer == pairs.len() as u64, "a placed image has another number of pairs");
         for (key, value) in pairs.iter().take(5) {
