@@ -27,7 +27,8 @@
  * - Lent memory is what a function writes: places, room, work, out. It must not overlap anything else that the same call is
  *   passed. Memory that is only read may overlap.
  * - It keeps nothing after it returns, allocates nothing and has no state of its own, so any number of threads may call it.
- * - Stack, as measured on x86-64: at most about 490 KB for lxtr_build, 17 KB for lxtr_check and lxtr_complete, 1 KB for the others.
+ * - Stack, as measured on x86-64: at most about 490 KB for lxtr_build, 33 KB for lxtr_fault, 17 KB for lxtr_check and
+ *   lxtr_complete, 1 KB for the others.
  *
  * WHAT A NUMBER MEANS
  *

@@ -29,6 +29,8 @@ pub struct Comparison {
     unmet: u64,
     /// How often each function gave each refusal, 0 for none.
     seen: [[u64; 24]; Function::ALL.len()],
+    /// How often a fault lay in each part of rule 11, 0 for other rules.
+    list_faults: [u64; 8],
     variants: Vec<Variant>,
     oracle: OracleScore,
 }
@@ -53,6 +55,7 @@ impl Comparison {
             different: 0,
             unmet: 0,
             seen: [[0; 24]; Function::ALL.len()],
+            list_faults: [0; 8],
             variants: Wrong::ALL.iter().map(variant).collect(),
             oracle: OracleScore::default(),
         }
@@ -82,6 +85,9 @@ impl Comparison {
         let refusal = (answer >> 40) as usize;
         if let Some(count) = self.seen[call.function() as usize].get_mut(refusal) {
             *count += 1;
+        }
+        if call.function() == Function::Fault {
+            self.list_faults[(answer >> 34 & 7) as usize] += 1;
         }
         if !same {
             self.different += 1;
@@ -172,6 +178,7 @@ impl Comparison {
     /// Prints the tables; gives how many comparisons and variants came out right and wrong.
     pub fn report(&self) -> (u64, u64) {
         self.print_refusals();
+        println!("faults in the parts of rule 11: {:?}", &self.list_faults[1..=5]);
         println!("set oracle: {} images, {} with a set", self.oracle.images, self.oracle.with_set);
         let never = self.never_seen();
         let unnoticed = self.print_variants();
@@ -197,9 +204,13 @@ impl Comparison {
         }
     }
 
-    /// Prints and counts the refusals that a function can give and never gave.
+    /// Prints and counts the refusals, and parts of rule 11, that a function can give and never gave.
     fn never_seen(&self) -> u64 {
         let mut never = 0;
+        for part in (1..=5).filter(|part| self.list_faults[*part] == 0) {
+            println!("NEVER SEEN: part {part} of rule 11 from fault");
+            never += 1;
+        }
         for function in Function::ALL {
             for number in (1..24).filter(|number| function.can_refuse(*number)) {
                 if self.seen[function as usize][number] == 0 {
