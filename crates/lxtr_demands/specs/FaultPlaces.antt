@@ -1,4 +1,4 @@
--- Where a fault lies: the place that is answered is one at which the rule does not hold, and the first such place.
+-- Where a fault lies: the place that is answered is the first at which the rule does not hold. One answer is right, and no other.
 -- Only the statement; the proof is `fault-right` in Laws/FaultPlaces.antt.
 use Prim.Native.Nat.{ℕ, _≤_, _<_}
 use mathlib.Core.Path.{_≡_}
