@@ -1,10 +1,18 @@
-# `make run` proves and builds the listing program and lists a sample key list; `make test` is the gate.
-.PHONY: run examples archive host crosscheck bench test
+# `make` proves and builds the inspector's command and shows it on a sample; `make test` is the gate.
+.PHONY: run list examples archive host crosscheck bench lessons command test
 
 # What a proof or a compiler says goes to a log, and is shown only where it fails.
 quietly = @mkdir -p target; $(1) > target/make.log 2>&1 || { cat target/make.log; exit 1; }
 
+# The command, and with it the image of the sample key list: built, checked and listed.
 run:
+	$(call quietly,rt check lxtr)
+	target/bin/lxtr build samples/goods.keys target/goods.img
+	target/bin/lxtr check target/goods.img
+	target/bin/lxtr complete target/goods.img
+
+# The listing program of document 01.
+list:
 	$(call quietly,rt check list_pairs)
 	@target/bin/list_pairs < samples/goods.keys
 
@@ -24,12 +32,22 @@ host: archive
 	@cat target/host/stdout
 
 crosscheck: archive
-	$(call quietly,rt check list_pairs)
+	$(call quietly,rt check list_pairs lxtr)
 	@bash .ci/crosscheck
 
 # Times of the C functions beside the independent implementation, on generated key lists.
 bench: archive
 	@cd bench && cargo run --release --offline --quiet
+
+# The files of lessons/ made anew, and the commands of its README run.
+lessons:
+	$(call quietly,rt check lxtr)
+	@bash .ci/lessons
+
+# The inspector's command run on sound and bad files, and with bad arguments.
+command:
+	$(call quietly,rt check lxtr)
+	@bash .ci/command
 
 test:
 	@bash .ci/run

@@ -20,6 +20,7 @@ pub mod image;
 pub mod keylist;
 pub mod listing;
 pub mod oracle;
+pub mod random;
 pub mod rules;
 pub mod search;
 

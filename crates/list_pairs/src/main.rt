@@ -2,8 +2,6 @@
 // for each pair. What a line says is decided by `lxtr_text`.
 ghost use mathlib.Core.Path.{_≡_};
 ghost use mathlib.Core.Bool.{true};
-ghost use Prim.Native.Nat.{_≤_};
-ghost use lib.ListN.{length};
 ghost use Rattle.lxtr_text.specs.Records.{isWholeRecord};
 use libc::STDIN_FILENO;
 use libc::STDOUT_FILENO;
@@ -26,9 +24,7 @@ const OUTPUT_ROOM: usize = 65536;
 const LISTING_ROOM: usize = 65536;
 
 // Prints a line of a word and a number.
-fn print_number(word: &[u8], n: u32)
-    requires { ⌜ length (now word) ≤ 7 ⌝ }
-{
+fn print_number(word: &[u8], n: u32) {
     let mut line = [0u8; LINE_ROOM];
     let length = number_line(word, n, &mut line);
     io::write_all(STDOUT_FILENO, &line[..length]);

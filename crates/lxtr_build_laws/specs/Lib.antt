@@ -8,6 +8,7 @@ pub mod Passing
 -- the code map: rising lists, the labels used, and their order
 pub mod Inserted
 pub mod Rising
+pub mod Moving
 pub mod Labels
 pub mod Maps
 -- what placing does to the work

@@ -29,7 +29,6 @@ pub mod Prefixes
 pub mod Searches
 pub mod Demand2
 -- The builder.
-pub mod Bytes
 pub mod Sections
 pub mod WorkSlots
 pub mod WorkLists

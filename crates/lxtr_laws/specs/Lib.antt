@@ -9,6 +9,7 @@ pub mod Order
 pub mod Passed
 pub mod Lists
 pub mod ByteOrders
+pub mod ReadBack
 pub mod Sorted
 pub mod Counting
 pub mod Members

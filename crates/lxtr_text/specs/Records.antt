@@ -1,25 +1,20 @@
 -- The records of a listing: a key as in a key list, then the value in four bytes.
-use Prim.Native.Nat.{ℕ, _+_, _*_, _≤_, _<_}
+use Prim.Native.Nat.{ℕ, _+_, _*_, _-_, _≤_, _<_}
 use native.Mathlib.Omega.{arith}
-use mathlib.Core.Path.{_≡_, refl, sym, _∙_}
-use mathlib.Core.List.{List, _∷_}
+use mathlib.Core.Path.{_≡_, refl, sym, ap, _∙_}
+use mathlib.Core.List.{List}
 use mathlib.Core.Bool.{Bool, true, false, _&&_, not}
 use borrow.Author.Tests.{not-false, lt-ltb, le-ltb, lt-leb, le-leb}
-use lib.ListN.{length}
+use lib.ListN.{length, take, drop, getD, length-drop}
+use lib.Seq.{length-take-le, getD-take, getD-drop, ext-getD}
 use lib.Dec.{leb, ltb}
 use Rattle.lxtr_spec.specs.Words.{be32}
-use Rattle.lxtr_spec.specs.Labels.{maxLabels, Pair}
+use Rattle.lxtr_spec.specs.Labels.{maxLabels, labelsOf, Pair}
 use Rattle.lxtr_spec.specs.KeyLists.{keyLength, keyLabel, keyAt, nextKey}
-use Rattle.lxtr_spec.specs.Lines.{space, decimalDigits, hexadecimalDigits, hexadecimal, labelsText, pairLine}
 use Rattle.lxtr_laws.specs.Ranges.{tests}
+use Rattle.lxtr_laws.specs.Queries.{label-count, label-read}
 use Rattle.lxtr_build_laws.specs.KeyLists.{WholeKey}
 use Rattle.lxtr_build_laws.specs.Keys.{key-size, key-at}
-use Rattle.lxtr_text.specs.Puts.{Put, PutLine}
-use Rattle.lxtr_text.specs.Texts.{LabelsSoFar, label-place, labels-next, labels-end}
-
--- room for the longest line: a value, the labels with a space before each, and the line's end
-abbrev pub lineRoom : ℕ
-lineRoom = decimalDigits + (1 + hexadecimalDigits) * maxLabels + 1
 
 -- the pair of the record at a place, and the place behind it
 unfoldable pub recordPair : List ℕ → ℕ → Pair
@@ -45,13 +40,6 @@ module _ (b : List ℕ) (at : ℕ) where
   pub is-whole : (r : Bool) → r ≡ isWholeRecord b at → not r ≡ false → isWholeRecord b at ≡ true
   is-whole r e h = sym e ∙ not-false r h
 
-  pub record-short : WholeRecord b at → length (keyAt b at) ≤ maxLabels
-  record-short w = let s = w .key .short in let e = key-size b at in omega arith
-
-  pub value-is : (next value : ℕ) (line l : List ℕ) (r : ℕ) → next ≡ nextKey b at → value ≡ be32 b next → PutLine line (pairLine (keyAt b at, value)) l r → PutLine line (pairLine (recordPair b at)) l r
-  unfolding recordPair
-  value-is next value line l r e f = λ p. rw (sym e, sym f) p
-
   -- what the tests say, one after the other
   pub starts-past : length b ≤ at → false ≡ isWholeRecord b at
   unfolding isWholeRecord
@@ -66,17 +54,50 @@ module _ (b : List ℕ) (at : ℕ) where
     unfolding isWholeRecord recordEnd
     ends-within next h e = rw (lt-ltb at (length b) starts, le-leb (keyLength b at) maxLabels (omega arith), e) refl
 
--- ---- the labels of a record's key, one after the other
+-- what a record holds
+module _ (b : List ℕ) (at : ℕ) (whole : isWholeRecord b at ≡ true) where
+  pub record-starts : at < length b
+  record-starts = whole-record b at whole .key .starts
 
-module _ (b : List ℕ) (at count : ℕ) (is : count ≡ keyLength b at) (line : List ℕ) (start : ℕ) (room : start + 9 * length (keyAt b at) ≤ length line)
-    (j : ℕ) (line′ : List ℕ) (end : ℕ) (before : LabelsSoFar line start (keyAt b at) j line′ end) where
-  pub next-place : j < count → end + 9 ≤ length line′
-  next-place h = let e = key-size b at in label-place line start (keyAt b at) room j line′ end before (omega arith)
+  module _ (next : ℕ) (is : next ≡ nextKey b at) where
+    pub value-place : next + 4 ≤ length b
+    value-place = omega (arith, whole-record b at whole .ends)
 
-  pub next-label : (x : ℕ) (line″ : List ℕ) (r : ℕ) → j < count → x ≡ keyLabel b at j → Put line′ end (space ∷ hexadecimal x) line″ r
-      → LabelsSoFar line start (keyAt b at) (j + 1) line″ r
-  next-label x line″ r h e p =
-      let s = key-size b at in labels-next line start (keyAt b at) room j line′ end before x line″ r (omega arith) (e ∙ sym (key-at b at j (omega arith))) p
+    pub value-read : (v : ℕ) → v ≡ be32 b next → v ≡ recordPair b at .1
+    unfolding recordPair
+    value-read v e = e ∙ ap (be32 b) is
 
-  pub all-labels : count ≤ j → Put line start (labelsText (keyAt b at)) line′ end
-  all-labels h = let s = key-size b at in labels-end line start (keyAt b at) room j line′ end before (omega arith)
+    pub labels-start : at + 1 ≤ next
+    unfolding nextKey
+    labels-start = omega (arith, is)
+
+    pub labels-inside : next ≤ length b
+    labels-inside = omega (arith, value-place)
+
+    pub start-fits : at + 1 ≤ length b
+    start-fits = omega (arith, record-starts)
+
+    part : List ℕ
+    part = take (next - (at + 1)) (drop (at + 1) b)
+
+    part-length : length part ≡ 4 * keyLength b at
+    unfolding part nextKey
+    part-length = length-take-le (next - (at + 1)) (drop (at + 1) b) (omega (arith, length-drop (at + 1) b, labels-inside)) ∙ omega (arith, is)
+
+    part-byte : (i : ℕ) → i < 4 * keyLength b at → getD part i 0 ≡ getD b (at + 1 + i) 0
+    unfolding part nextKey
+    part-byte i h = getD-take (next - (at + 1)) (drop (at + 1) b) i 0 (omega (arith, is)) ∙ getD-drop (at + 1) b i 0
+
+    part-label : (j : ℕ) → j < keyLength b at → be32 part (4 * j) ≡ keyLabel b at j
+    unfolding be32 keyLabel
+    part-label j h =
+        let place : (i : ℕ) → at + 1 + (4 * j + i) ≡ at + 1 + 4 * j + i = λ i. omega arith in
+        let byte : (i : ℕ) → i < 4 → getD part (4 * j + i) 0 ≡ getD b (at + 1 + 4 * j + i) 0 = λ i l. part-byte (4 * j + i) (omega arith) ∙ ap (λ (k : ℕ). getD b k 0) (place i) in
+        rw (part-byte (4 * j) (omega arith), byte 1 (omega arith), byte 2 (omega arith), byte 3 (omega arith)) refl
+
+    pub labels-read : labelsOf (take (next - (at + 1)) (drop (at + 1) b)) ≡ recordPair b at .0
+    unfolding recordPair part
+    labels-read =
+        ext-getD 0 (labelsOf part) (keyAt b at) (omega (arith, label-count part, part-length, key-size b at)) (λ j l.
+        let h : j < keyLength b at = omega (arith, label-count part, part-length) in
+        sym (label-read part j l (be32 part (4 * j)) refl) ∙ part-label j h ∙ sym (key-at b at j h))

@@ -1,78 +1,62 @@
-// Numbers and the pairs of a listing as lines of text, in ASCII, put at the front of a lent line.
-mod numerals;
+// Lines of text, put at the front of a lent line: the pairs of a listing as document 01 has them, keys with their values, and forms.
+mod appending; // bytes behind those in the line
+mod numerals; // numbers
+mod characters; // labels as text
+mod keys; // the labels of a key
+pub mod forms; // text with marks for numbers
 
 ghost use mathlib.Core.Path.{_≡_};
 ghost use mathlib.Core.Bool.{true};
-ghost use mathlib.Core.List.{_∷_, _++_};
-ghost use Prim.Native.Nat.{_+_, _*_, _≤_, _<_};
+ghost use mathlib.Core.List.{_++_};
+ghost use Prim.Native.Nat.{_+_, _≤_};
 ghost use lib.ListN.{length};
-ghost use Rattle.lxtr_spec.specs.KeyLists.{keyAt};
-ghost use Rattle.lxtr_spec.specs.Lines.{space, decimalDigits, hexadecimalDigits, hexadecimal, numberLine, labelsText, pairLine};
-ghost use Rattle.lxtr_text.specs.Puts.{Put, PutLine};
-ghost use Rattle.lxtr_text.specs.Records.{lineRoom, recordPair, recordEnd, isWholeRecord, WholeRecord};
-use crate::numerals::put_byte;
-use crate::numerals::put_numeral;
+ghost use Rattle.lxtr_spec.specs.Labels.{labelsOf};
+ghost use Rattle.lxtr_spec.specs.Lines.{numberLine, pairLine};
+ghost use Rattle.lxtr_command_spec.specs.Forms.{keyText, completionLine, prefixLine};
+ghost use Rattle.lxtr_text.specs.Appends.{Appended};
+ghost use Rattle.lxtr_text.specs.Records.{recordPair, recordEnd, isWholeRecord};
+use crate::appending::append_byte;
+use crate::keys::append_key;
+use crate::keys::append_labels;
+use crate::numerals::append_decimal;
 use lxtr_image::words::be32_at;
-use lxtr_keys::key_label;
 use lxtr_keys::key_length;
 use lxtr_keys::next_key;
 use lxtr_spec::MAX_LABELS;
 
-// The most digits of a number of 32 bits, in decimal and in hexadecimal.
-const DECIMAL_DIGITS: usize = 10;
+// Room for each of the lines below and for a form: the labels of a key as text and in hexadecimal, and 192 bytes more.
+pub const LINE_ROOM: usize = 192 + (4 + 9) * MAX_LABELS;
 
-const HEXADECIMAL_DIGITS: usize = 8;
-
-// Room for the longest line: a value, the labels with a space before each, and the line's end.
-pub const LINE_ROOM: usize = DECIMAL_DIGITS + (1 + HEXADECIMAL_DIGITS) * MAX_LABELS + 1;
-
-// The bytes of a word; answers the place behind them, as the next two do.
-fn put_word(line: &mut [u8], at: usize, word: &[u8]) -> usize
-    requires { ⌜ at + length (now word) ≤ length (now line) ⌝ }
-    ensures { λ r. ⌜ Put (now (line .entry)) at (now (word .entry)) (now (line .exit)) r ⌝ }
+// The bytes of a word.
+fn append_word(line: &mut [u8], at: usize, word: &[u8]) -> usize
+    requires { ⌜ at ≤ length (now line) ⌝ }
+    ensures { λ r. ⌜ Appended (now (line .entry)) at (now (word .entry)) (now (line .exit)) r ⌝ }
 {
-    let mut i = 0;
+    let mut end = at;
+    let mut i: usize = 0;
     while i < word.len() {
-        line[at + i] = word[i];
+        end = append_byte(line, end, word[i]);
         i += 1;
-    }
-    at + i
-}
-
-// A space and a label.
-fn put_label(line: &mut [u8], at: usize, x: u32) -> usize
-    requires { ⌜ at + (1 + hexadecimalDigits) ≤ length (now line) ⌝ }
-    ensures { λ r. ⌜ Put (now (line .entry)) at (space ∷ hexadecimal x) (now (line .exit)) r ⌝ }
-{
-    let start = put_byte(line, at, b' ');
-    put_numeral(line, start, 16, HEXADECIMAL_DIGITS, x)
-}
-
-// The labels of the key of the record at a place of a listing.
-fn put_labels(line: &mut [u8], start: usize, listing: &[u8], at: usize) -> usize
-    requires { ⌜ WholeRecord (now listing) at ⌝ }
-    requires { ⌜ start + (1 + hexadecimalDigits) * length (keyAt (now listing) at) ≤ length (now line) ⌝ }
-    ensures { λ r. ⌜ Put (now (line .entry)) start (labelsText (keyAt (now (listing .entry)) at)) (now (line .exit)) r ⌝ }
-{
-    let count = key_length(listing, at);
-    let mut end = start;
-    let mut j = 0;
-    while j < count {
-        end = put_label(line, end, key_label(listing, at, j));
-        j += 1;
     }
     end
 }
 
-// A line of a word and a number; answers its length.
-pub fn number_line(word: &[u8], n: u32, line: &mut [u8]) -> usize
-    requires { ⌜ length (now word) + 1 + decimalDigits + 1 ≤ length (now line) ⌝ }
-    ensures { λ r. ⌜ PutLine (now (line .entry)) (numberLine (now (word .entry)) n) (now (line .exit)) r ⌝ }
+// Two words, one behind the other; answers how many bytes they have.
+pub fn joined(first: &[u8], second: &[u8], line: &mut [u8]) -> usize
+    ensures { λ r. ⌜ Appended (now (line .entry)) 0 (now (first .entry) ++ now (second .entry)) (now (line .exit)) r ⌝ }
 {
-    let word_end = put_word(line, 0, word);
-    let start = put_byte(line, word_end, b' ');
-    let end = put_numeral(line, start, 10, DECIMAL_DIGITS, n);
-    put_byte(line, end, b'\n')
+    let next = append_word(line, 0, first);
+    append_word(line, next, second)
+}
+
+// A line of a word and a number; answers its length, as the functions below do.
+pub fn number_line(word: &[u8], n: u32, line: &mut [u8]) -> usize
+    ensures { λ r. ⌜ Appended (now (line .entry)) 0 (numberLine (now (word .entry)) n) (now (line .exit)) r ⌝ }
+{
+    let word_end = append_word(line, 0, word);
+    let start = append_byte(line, word_end, b' ');
+    let end = append_decimal(line, start, n);
+    append_byte(line, end, b'\n')
 }
 
 // Whether the record at a place lies whole in a listing and its key has no more labels than a key may have.
@@ -96,14 +80,69 @@ pub fn record_end(listing: &[u8], at: usize) -> usize
     next_key(listing, at) + 4
 }
 
-// The line of the record at a place: the value, then the labels; answers its length.
+// The value of the record at a place.
+fn record_value(listing: &[u8], at: usize) -> u32
+    requires { ⌜ isWholeRecord (now listing) at ≡ true ⌝ }
+    ensures { λ r. ⌜ r ≡ recordPair (now (listing .entry)) at .1 ⌝ }
+{
+    be32_at(listing, next_key(listing, at))
+}
+
+// The labels of the record at a place, as the bytes of the listing.
+fn record_labels<'a>(listing: &'a [u8], at: usize) -> &'a [u8]
+    requires { ⌜ isWholeRecord (now listing) at ≡ true ⌝ }
+    ensures { λ r. ⌜ labelsOf (now r) ≡ recordPair (now (listing .entry)) at .0 ⌝ }
+{
+    let start = at + 1;
+    let end = next_key(listing, at);
+    &listing[start..end]
+}
+
+// The line of the record at a place, as document 01 has it: the value, then the labels.
 pub fn pair_line(listing: &[u8], at: usize, line: &mut [u8]) -> usize
     requires { ⌜ isWholeRecord (now listing) at ≡ true ⌝ }
-    requires { ⌜ lineRoom ≤ length (now line) ⌝ }
-    ensures { λ r. ⌜ PutLine (now (line .entry)) (pairLine (recordPair (now (listing .entry)) at)) (now (line .exit)) r ⌝ }
+    ensures { λ r. ⌜ Appended (now (line .entry)) 0 (pairLine (recordPair (now (listing .entry)) at)) (now (line .exit)) r ⌝ }
 {
-    let value = be32_at(listing, next_key(listing, at));
-    let value_end = put_numeral(line, 0, 10, DECIMAL_DIGITS, value);
-    let end = put_labels(line, value_end, listing, at);
-    put_byte(line, end, b'\n')
+    let value_end = append_decimal(line, 0, record_value(listing, at));
+    let end = append_labels(line, value_end, record_labels(listing, at), 0);
+    append_byte(line, end, b'\n')
+}
+
+// A value with its key, text and labels, to the line's end.
+fn append_pair(line: &mut [u8], at: usize, value: u32, labels: &[u8]) -> usize
+    requires { ⌜ at ≤ length (now line) ⌝ }
+    ensures { λ r. ⌜ Appended (now (line .entry)) at (completionLine (labelsOf (now (labels .entry)), value)) (now (line .exit)) r ⌝ }
+{
+    let value_end = append_decimal(line, at, value);
+    let next = append_byte(line, value_end, b'\t');
+    append_key(line, next, labels)
+}
+
+// The line of the record at a place, as the command prints it: value, text and labels.
+pub fn completion_line(listing: &[u8], at: usize, line: &mut [u8]) -> usize
+    requires { ⌜ isWholeRecord (now listing) at ≡ true ⌝ }
+    ensures { λ r. ⌜ Appended (now (line .entry)) 0 (completionLine (recordPair (now (listing .entry)) at)) (now (line .exit)) r ⌝ }
+{
+    append_pair(
+        line,
+        0,
+        record_value(listing, at),
+        record_labels(listing, at),
+    )
+}
+
+// The line of a key: text and labels.
+pub fn key_line(labels: &[u8], line: &mut [u8]) -> usize
+    ensures { λ r. ⌜ Appended (now (line .entry)) 0 (keyText (labelsOf (now (labels .entry)))) (now (line .exit)) r ⌝ }
+{
+    append_key(line, 0, labels)
+}
+
+// The line of a prefix of a query: length, value, text and labels.
+pub fn prefix_line(count: u32, value: u32, part: &[u8], line: &mut [u8]) -> usize
+    ensures { λ r. ⌜ Appended (now (line .entry)) 0 (prefixLine count value (labelsOf (now (part .entry)))) (now (line .exit)) r ⌝ }
+{
+    let count_end = append_decimal(line, 0, count);
+    let start = append_byte(line, count_end, b'\t');
+    append_pair(line, start, value, part)
 }

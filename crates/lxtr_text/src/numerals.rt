@@ -1,10 +1,15 @@
-// A number by its digits, put into a lent line.
+// A number by its digits, put into a line.
 ghost use mathlib.Core.Path.{_≡_};
-ghost use mathlib.Core.List.{[], _∷_};
-ghost use Prim.Native.Nat.{_+_, _≤_, _<_};
+ghost use Prim.Native.Nat.{_≤_, _<_};
 ghost use lib.ListN.{length};
-ghost use Rattle.lxtr_spec.specs.Lines.{digitOf, numeral};
-ghost use Rattle.lxtr_text.specs.Puts.{Put};
+ghost use Rattle.lxtr_spec.specs.Lines.{digitOf, numeral, decimal, hexadecimal};
+ghost use Rattle.lxtr_text.specs.Appends.{Appended};
+use crate::appending::append_byte;
+
+// The most digits of a number of 32 bits, in decimal and in hexadecimal.
+const DECIMAL_DIGITS: usize = 10;
+
+const HEXADECIMAL_DIGITS: usize = 8;
 
 // The digits 0 to 9, then A to F.
 fn digit_of(d: u32) -> u8
@@ -17,27 +22,32 @@ fn digit_of(d: u32) -> u8
     0x37 + d as u8
 }
 
-// One byte. This and the functions below answer the place behind what they put.
-pub fn put_byte(line: &mut [u8], at: usize, x: u8) -> usize
-    requires { ⌜ at < length (now line) ⌝ }
-    ensures { λ r. ⌜ Put (now (line .entry)) at (x ∷ []) (now (line .exit)) r ⌝ }
-{
-    line[at] = x;
-    at + 1
-}
-
 // A number to a base, where so many digits are enough.
-pub fn put_numeral(line: &mut [u8], at: usize, base: u32, digits: usize, n: u32) -> usize
+fn append_numeral(line: &mut [u8], at: usize, base: u32, digits: usize, n: u32) -> usize
     requires { ⌜ (2 ≤ base) × (base ≤ 16) ⌝ }
-    requires { ⌜ at + digits ≤ length (now line) ⌝ }
-    ensures { λ r. ⌜ Put (now (line .entry)) at (numeral base digits n) (now (line .exit)) r ⌝ }
+    requires { ⌜ at ≤ length (now line) ⌝ }
+    ensures { λ r. ⌜ Appended (now (line .entry)) at (numeral base digits n) (now (line .exit)) r ⌝ }
 {
     if digits == 0 {
         return at;
     }
     if n < base {
-        return put_byte(line, at, digit_of(n));
+        return append_byte(line, at, digit_of(n));
     }
-    let end = put_numeral(line, at, base, digits - 1, n / base);
-    put_byte(line, end, digit_of(n % base))
+    let end = append_numeral(line, at, base, digits - 1, n / base);
+    append_byte(line, end, digit_of(n % base))
+}
+
+pub fn append_decimal(line: &mut [u8], at: usize, n: u32) -> usize
+    requires { ⌜ at ≤ length (now line) ⌝ }
+    ensures { λ r. ⌜ Appended (now (line .entry)) at (decimal n) (now (line .exit)) r ⌝ }
+{
+    append_numeral(line, at, 10, DECIMAL_DIGITS, n)
+}
+
+pub fn append_hexadecimal(line: &mut [u8], at: usize, n: u32) -> usize
+    requires { ⌜ at ≤ length (now line) ⌝ }
+    ensures { λ r. ⌜ Appended (now (line .entry)) at (hexadecimal n) (now (line .exit)) r ⌝ }
+{
+    append_numeral(line, at, 16, HEXADECIMAL_DIGITS, n)
 }

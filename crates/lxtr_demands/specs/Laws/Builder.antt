@@ -40,7 +40,7 @@ use Rattle.lxtr_demands.specs.Laws.Images.{image-passes, known-image}
 use Rattle.lxtr_demands.specs.Laws.Counts.{pairs-counted, listing-counted}
 use Rattle.lxtr_demands.specs.Laws.Demand3.{demand3}
 use Rattle.lxtr_demands.specs.Laws.Demand2.{exact-set, demand2}
-use Rattle.lxtr_demands.specs.Laws.Bytes.{be-words}
+use Rattle.lxtr_laws.specs.ReadBack.{be-words}
 use Rattle.lxtr_demands.specs.Laws.BuiltImages.{scalar-small, image-of-work}
 
 -- the labels of a query are those that it was written for

@@ -10,7 +10,7 @@ use Rattle.lxtr_spec.specs.Words.{byteAt, le32, be32, leBytes, beBytes, leWords
 use Rattle.lxtr_spec.specs.Image.{magic, version, slotCount, childCount, mapLength, mapAt, imageLength, baseWord, checkWord, offset, child, mapVersion, labelCount, labelAt}
 use Rattle.lxtr_spec.specs.Builds.{headerBytes, mapBytes, imageBytes}
 use Rattle.lxtr_laws.specs.ByteOrders.{little, big, words-size}
-use Rattle.lxtr_demands.specs.Laws.Bytes.{le-first, be-first, le-past, be-past, le-words, be-words}
+use Rattle.lxtr_laws.specs.ReadBack.{le-first, be-first, le-past, be-past, le-words, be-words}
 
 -- N slots' nodes, their offsets, the children and the labels fit together, and all are numbers of 32 bits
 pub record Sections (N : ℕ) (nodes offsets children labels : List ℕ) : Type 0 where

@@ -1,8 +1,8 @@
 //! Damages an image in every field that a refusal from 1 to 12 looks at.
 
 use crate::keysets::NO_SCALARS;
-use crate::random::Random;
 use crosscheck::image::{CodeMap, Image, HEADER_LEN, TOP_BIT};
+use crosscheck::random::Random;
 use crosscheck::rules::Rules;
 
 /// The image's bytes with one to three faults.

@@ -3,11 +3,11 @@
 use crate::call::Call;
 use crate::comparison::Comparison;
 use crate::queries::any_query;
-use crate::random::Random;
 use crosscheck::answers::PLACE_WORDS;
 use crosscheck::common::query_of;
 use crosscheck::image::Image;
 use crosscheck::keylist::Key;
+use crosscheck::random::Random;
 use crosscheck::rules::Rules;
 
 /// All four searches for one query.

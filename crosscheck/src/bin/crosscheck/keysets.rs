@@ -1,8 +1,8 @@
 //! Random sets of keys of many kinds, in ascending order, each key once.
 
-use crate::random::Random;
 use crosscheck::common::KEY_LABELS;
 use crosscheck::keylist::Key;
+use crosscheck::random::Random;
 use std::collections::BTreeSet;
 
 /// Labels at the edges of the scalar values and of their encodings.

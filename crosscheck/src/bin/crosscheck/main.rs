@@ -22,11 +22,10 @@ mod keysets;
 mod lent;
 mod placer;
 mod queries;
-mod random;
 mod stages;
 
 use comparison::Comparison;
-use random::Random;
+use crosscheck::random::Random;
 use stages::{bad_lists, damaged, edges, examples, large, lists, placed, program, tiny, wild};
 use std::process::ExitCode;
 use std::time::Instant;

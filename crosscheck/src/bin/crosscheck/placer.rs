@@ -2,10 +2,10 @@
 //! other codes, unused labels and spare slots than the builder's; and images
 //! whose lists agree with parents that never reach slot 1.
 
-use crate::random::Random;
 use crosscheck::common::SLOTS;
 use crosscheck::image::{CodeMap, Image, Node, TOP_BIT};
 use crosscheck::keylist::Key;
+use crosscheck::random::Random;
 use crosscheck::rules::Rules;
 use std::collections::{BTreeMap, BTreeSet, HashSet};
 

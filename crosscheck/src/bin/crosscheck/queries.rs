@@ -1,10 +1,10 @@
 //! Queries for an image: present, absent, too long, odd, with foreign labels.
 
 use crate::keysets::{EDGE_LABELS, NO_SCALARS};
-use crate::random::Random;
 use crosscheck::common::query_of;
 use crosscheck::image::Image;
 use crosscheck::keylist::Key;
+use crosscheck::random::Random;
 
 /// The bytes of a query of a random kind.
 pub fn any_query(random: &mut Random, image: &Image, keys: &[Key]) -> Vec<u8> {

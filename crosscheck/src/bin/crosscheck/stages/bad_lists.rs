@@ -3,8 +3,8 @@
 use crate::call::Call;
 use crate::comparison::Comparison;
 use crate::keysets::{self, NO_SCALARS};
-use crate::random::Random;
 use crosscheck::keylist::{to_bytes, Key};
+use crosscheck::random::Random;
 
 /// Work and output that are enough for every list here.
 const ENOUGH: (usize, usize) = (4_000, 40_000);

@@ -6,11 +6,11 @@ use crate::comparison::Comparison;
 use crate::damage::damaged;
 use crate::explore::any_search;
 use crate::queries::any_query;
-use crate::random::Random;
 use crosscheck::builder::image_of;
 use crosscheck::common::query_of;
 use crosscheck::image::Image;
 use crosscheck::keylist::{to_bytes, Key};
+use crosscheck::random::Random;
 use crosscheck::rules::Rules;
 
 pub fn run(comparison: &mut Comparison, random: &mut Random, amount: usize) {

@@ -5,10 +5,10 @@ use crate::comparison::Comparison;
 use crate::explore::{complete_at_borders, search};
 use crate::keysets::one_label_each;
 use crate::placer::{place, with_values};
-use crate::random::Random;
 use crosscheck::common::query_of;
 use crosscheck::image::Image;
 use crosscheck::keylist::{to_bytes, Key};
+use crosscheck::random::Random;
 
 pub fn run(comparison: &mut Comparison, random: &mut Random) {
     listed_labels(comparison, random);

@@ -7,9 +7,9 @@ use crate::comparison::Comparison;
 use crate::explore::explore;
 use crate::keysets::{all_strings, keys_over, one_label_each};
 use crate::placer::{any_code_order, place, with_values};
-use crate::random::Random;
 use crosscheck::builder::image_of;
 use crosscheck::keylist::{to_bytes, Key};
+use crosscheck::random::Random;
 use crosscheck::rules::Rules;
 
 pub fn run(comparison: &mut Comparison, random: &mut Random) {

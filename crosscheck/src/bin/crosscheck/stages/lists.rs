@@ -4,9 +4,9 @@ use crate::call::Call;
 use crate::comparison::Comparison;
 use crate::explore::explore;
 use crate::keysets;
-use crate::random::Random;
 use crosscheck::builder::image_of;
 use crosscheck::keylist::{to_bytes, Key};
+use crosscheck::random::Random;
 use crosscheck::rules::Rules;
 
 pub fn run(comparison: &mut Comparison, random: &mut Random, amount: usize) {

@@ -7,10 +7,10 @@ use crate::explore::{any_search, explore, search};
 use crate::keysets;
 use crate::placer::{add_ring, any_code_order, place, rehang, with_values, Pairs};
 use crate::queries::any_query;
-use crate::random::Random;
 use crosscheck::common::query_of;
 use crosscheck::image::Image;
 use crosscheck::keylist::Key;
+use crosscheck::random::Random;
 
 pub fn run(comparison: &mut Comparison, random: &mut Random, amount: usize) {
     for _ in 0..500 * amount {

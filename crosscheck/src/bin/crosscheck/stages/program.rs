@@ -4,9 +4,9 @@ use super::bad_lists::random_faults;
 use crate::call::Call;
 use crate::comparison::Comparison;
 use crate::keysets::{self, one_label_each, EDGE_LABELS, NO_SCALARS};
-use crate::random::Random;
 use crosscheck::keylist::{to_bytes, Key};
 use crosscheck::listing::INPUT_LEN;
+use crosscheck::random::Random;
 
 pub fn run(comparison: &mut Comparison, random: &mut Random, amount: usize) {
     for input in fixed_inputs(random) {

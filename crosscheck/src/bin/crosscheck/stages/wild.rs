@@ -7,9 +7,9 @@ use crate::comparison::Comparison;
 use crate::explore::{any_places, search};
 use crate::keysets::NO_SCALARS;
 use crate::queries::{any_query, walk};
-use crate::random::Random;
 use crosscheck::common::query_of;
 use crosscheck::image::{CodeMap, Image, Lists, Node, TOP_BIT};
+use crosscheck::random::Random;
 use crosscheck::rules::Rules;
 
 pub fn run(comparison: &mut Comparison, random: &mut Random, amount: usize) {

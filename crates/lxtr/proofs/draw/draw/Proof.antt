@@ -1,0 +1,30 @@
+-- Slots and lists are read only where the header refuses nothing.
+use borrow.Author.Needs.{needs}
+use Rattle.lxtr.specs.Parts.{passed}
+use Rattle.lxtr.proofs.draw.draw.Statement.{statement}
+use Rattle.lxtr.proofs.draw.draw.Tie as tie
+
+pub draw-spec : {M : Type 1} → statement M
+draw-spec =
+    tie.close
+    (tie.spec
+    (λ c κs. search needs)
+    (λ c κs. search needs)
+    (λ c. search needs)
+    (λ c κs. search needs)
+    (λ c κs. search needs)
+    (λ c κs. search needs)
+    (λ c κs. search passed)
+    (λ c κs. search needs)
+    (λ c κs. search passed)
+    (λ c. search needs)
+    (λ c κs. search needs)
+    (λ c. search needs)
+    (λ c κs. search needs)
+    (λ c. search needs)
+    (λ c κs. search needs)
+    (λ c. search needs)
+    (λ c κs. search needs)
+    (λ c. search needs)
+    (λ c κs. search needs)
+    (λ c. search needs))

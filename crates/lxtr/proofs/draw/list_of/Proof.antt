@@ -1,0 +1,30 @@
+-- The place goes up to the number of slots.
+use borrow.Author.Needs.{needs}
+use Prim.Native.Nat.{_-_}
+use mathlib.Core.Path.{_≡_}
+use native.Mathlib.Omega.{arith}
+use Rattle.lxtr_spec.specs.Image.{slotCount}
+use Rattle.lxtr.proofs.draw.list_of.Statement.{statement}
+use Rattle.lxtr.proofs.draw.list_of.Tie as tie
+
+abbrev Inv-loop : tie.InvT-loop
+Inv-loop image from j slots p₀ p = slots ≡ slotCount image
+
+abbrev μ-loop : tie.MeasureT-loop
+μ-loop image from j slots p₀ p = slots - p
+
+pub list-of-spec : {M : Type 1} → statement M
+list-of-spec =
+    tie.close
+    (tie.spec
+    Inv-loop
+    μ-loop
+    (λ c κs. search needs)
+    (λ c. search needs)
+    (λ c. omega arith)
+    (λ c κs. (search needs, omega arith))
+    (λ c. search needs)
+    (λ c. omega arith)
+    (λ c. omega arith)
+    (λ c. search needs)
+    (λ c. search needs))

@@ -1,0 +1,84 @@
+// The commands that write files: build and keys. A file is written only when there is all that goes into it.
+use crate::files::save;
+use crate::output::end;
+use crate::output::print;
+use crate::output::printed;
+use crate::output::say;
+use crate::rooms::LARGEST_FILE;
+use crate::rooms::WORK_WORDS;
+use crate::words::refuse;
+use lxtr_command_spec::LONG_WORD;
+use lxtr_command_spec::MANY_WORDS;
+use lxtr_command_spec::NOT_UTF8;
+use lxtr_spec::MAX_KEYS;
+use lxtr_spec::MAX_LABELS;
+
+// Builds the image of a key list into the file that the third argument names.
+pub fn build(keys: &[u8]) {
+    let mut work = [0u32; WORK_WORDS];
+    let mut out = [0u8; LARGEST_FILE];
+    build_in(keys, &mut work, &mut out);
+}
+
+// The arrays become slices, of which a part can be lent.
+fn build_in(keys: &[u8], work: &mut [u32; WORK_WORDS], out: &mut [u8; LARGEST_FILE]) {
+    build_into(keys, work, out);
+}
+
+fn build_into(keys: &[u8], work: &mut [u32], out: &mut [u8]) {
+    let built = lxtr_build::build(keys, work, out);
+    if built.refusal != 0 {
+        refuse(built.refusal);
+        return;
+    }
+    if save(3, &out[..built.length as usize]) {
+        say(b"bytes %\n", &[built.length]);
+        end(b"written");
+    }
+}
+
+fn print_problem(problem: u8, line: usize) {
+    if problem == NOT_UTF8 {
+        say(b"line %: this is not UTF-8\n", &[printed(line)]);
+    } else if problem == LONG_WORD {
+        say(
+            b"line %: the word has more than % labels\n",
+            &[printed(line), printed(MAX_LABELS)],
+        );
+    } else if problem == MANY_WORDS {
+        say(
+            b"there are more than % different words\n",
+            &[printed(MAX_KEYS)],
+        );
+    } else {
+        say(
+            b"the key list would have more than % bytes\n",
+            &[printed(LARGEST_FILE)],
+        );
+    }
+}
+
+// Makes the key list of a text's words into the file that the third argument names.
+pub fn keys(text: &[u8]) {
+    let mut out = [0u8; LARGEST_FILE];
+    list_in(text, &mut out);
+}
+
+// The array becomes a slice, of which a part can be lent.
+fn list_in(text: &[u8], out: &mut [u8; LARGEST_FILE]) {
+    list_into(text, out);
+}
+
+fn list_into(text: &[u8], out: &mut [u8]) {
+    let start = lxtr_words::mark_length(text);
+    let keyed = lxtr_words::key_list(&text[start..], out);
+    if keyed.problem != 0 {
+        print_problem(keyed.problem, keyed.line);
+        end(b"refused");
+        return;
+    }
+    if save(3, &out[..keyed.length]) {
+        say(b"keys %\n", &[printed(keyed.count)]);
+        end(b"written");
+    }
+}

@@ -1,0 +1,34 @@
+-- Each return is the row of the table whose name it is, behind those whose names it is not.
+use borrow.Author.Needs.{needs}
+use Rattle.lxtr_command_spec.specs.Commands.{asciiFrom, ascii, commandOf}
+use Rattle.lxtr_arguments.specs.Rows.{this-row, next-row}
+use Rattle.lxtr_arguments.proofs.command.Statement.{statement}
+use Rattle.lxtr_arguments.proofs.command.Tie as tie
+
+pub command-spec : {M : Type 1} → statement M
+unfolding asciiFrom ascii commandOf
+command-spec =
+    tie.close
+    (tie.spec
+    (λ c. search needs)
+    (λ c κs. search needs)
+    (λ c κs. search needs)
+    (λ c. search this-row)
+    (λ c. search needs)
+    (λ c κs. search needs)
+    (λ c κs. search needs)
+    (λ c. search (this-row, next-row))
+    (λ c. search needs)
+    (λ c κs. search needs)
+    (λ c κs. search needs)
+    (λ c. search (this-row, next-row))
+    (λ c. search needs)
+    (λ c κs. search needs)
+    (λ c κs. search needs)
+    (λ c. search (this-row, next-row))
+    (λ c. search needs)
+    (λ c κs. search needs)
+    (λ c κs. search needs)
+    (λ c. search (this-row, next-row))
+    (λ c κs. search needs)
+    (λ c. search next-row))

@@ -1,0 +1,65 @@
+-- Names and numbers of operands with the command that they mean, computed on the definitions.
+use Prim.Native.Nat.{ℕ}
+use Prim.Native.String.{String}
+use mathlib.Core.Path.{_≡_, refl}
+use mathlib.Core.List.{List, [], _∷_}
+use Rattle.lxtr_command_spec.specs.declared.Command.{Command}
+use Rattle.lxtr_command_spec.specs.declared.Command.the-variants.{Check, Exact, Prefixes, Longest, Probe, Complete, Build, Keys, Draw, Help, Unknown, WrongOperands}
+use Rattle.lxtr_command_spec.specs.Commands.{asciiFrom, ascii, sameBytes, taking, row, laterRows, commandOf}
+
+pub data Example : Type 0 where
+  -- a name, how many operands are behind it, and what it means
+  means : String → ℕ → Command → Example
+
+abbrev pub Holds : Example → Type 0
+Holds (means name n command) = commandOf (ascii name) n ≡ command
+
+abbrev pub AllHold : List Example → Type 0
+AllHold [] = Unit {0}
+AllHold (e ∷ es) = Holds e × AllHold es
+
+unfoldable pub examples : List Example
+examples =
+    -- each command
+    means "check" 1 Check
+    ∷ means "exact" 2 Exact
+    ∷ means "prefixes" 2 Prefixes
+    ∷ means "longest" 2 Longest
+    ∷ means "probe" 2 Probe
+    ∷ means "complete" 1 Complete
+    ∷ means "complete" 2 Complete
+    ∷ means "build" 2 Build
+    ∷ means "keys" 2 Keys
+    ∷ means "draw" 1 Draw
+    ∷ means "help" 0 Help
+    -- too few operands, and too many
+    ∷ means "check" 0 WrongOperands
+    ∷ means "check" 2 WrongOperands
+    ∷ means "exact" 1 WrongOperands
+    ∷ means "exact" 3 WrongOperands
+    ∷ means "complete" 0 WrongOperands
+    ∷ means "complete" 3 WrongOperands
+    ∷ means "build" 1 WrongOperands
+    ∷ means "keys" 3 WrongOperands
+    ∷ means "draw" 0 WrongOperands
+    ∷ means "help" 1 WrongOperands
+    -- no name, a shorter one, a longer one, one in other letters, and one with a byte changed
+    ∷ means "" 0 Unknown
+    ∷ means "chec" 1 Unknown
+    ∷ means "checks" 1 Unknown
+    ∷ means "Check" 1 Unknown
+    ∷ means "drew" 1 Unknown
+    ∷ []
+
+-- a row, and the rest of the table
+infixr 20 _and_
+_and_ : {A B : Type 0} → A → B → A × B
+a and b = (a, b)
+
+pub command-examples-hold : AllHold examples
+unfolding examples asciiFrom ascii sameBytes taking row laterRows commandOf
+command-examples-hold =
+    refl and refl and refl and refl and refl and refl and refl and refl and refl and refl and refl
+    and refl and refl and refl and refl and refl and refl and refl and refl and refl and refl
+    and refl and refl and refl and refl and refl
+    and tt

@@ -1,0 +1,38 @@
+-- The lines of a drawing go whole into a line of LINE_ROOM bytes.
+use Prim.Native.Nat.{ℕ, _≤_}
+use mathlib.Core.Path.{_≡_, refl}
+use mathlib.Core.List.{List}
+use mathlib.Core.Bool.{Bool, true, false}
+use borrow.Author.Tests.{leb-true}
+use lib.ListN.{length}
+use lib.Dec.{leb, eqb}
+use Rattle.lxtr_spec.specs.Image.{isLeaf, codeTo, labelCount}
+use Rattle.lxtr_command_spec.specs.Forms.{filled}
+use Rattle.lxtr_command_spec.specs.Commands.{asciiFrom, ascii}
+use Rattle.lxtr_command_spec.specs.Drawings.{slotLine, stepLine, entryLine}
+use Rattle.lxtr_text.specs.Rooms.{lineRoom, form-fits}
+
+-- a form of no more than 102 bytes, whatever the numbers
+fits : (form ns : List ℕ) → leb (length form) 102 ≡ true → length (filled form ns) ≤ lineRoom
+fits form ns e = form-fits form ns (leb-true (length form) 102 e)
+
+pub slot-fits : (b : List ℕ) (s : ℕ) (wrong : Bool) → length (slotLine b s wrong) ≤ lineRoom
+unfolding slotLine asciiFrom ascii
+slot-fits b s wrong = go (isLeaf b s) refl
+  where
+    go : (t : Bool) → isLeaf b s ≡ t → length (slotLine b s wrong) ≤ lineRoom
+    go true e = rw (slotLine, e) (fits _ _ refl)
+    go false e = rw (slotLine, e) (fits _ _ refl)
+
+pub step-fits : (b : List ℕ) (p s : ℕ) → length (stepLine b p s) ≤ lineRoom
+unfolding stepLine asciiFrom ascii
+step-fits b p s = go (eqb (codeTo b p s) 0) (leb (codeTo b p s) (labelCount b)) refl refl
+  where
+    go : (t u : Bool) → eqb (codeTo b p s) 0 ≡ t → leb (codeTo b p s) (labelCount b) ≡ u → length (stepLine b p s) ≤ lineRoom
+    go true u e f = rw (stepLine, e) (fits _ _ refl)
+    go false true e f = rw (stepLine, e, f) (fits _ _ refl)
+    go false false e f = rw (stepLine, e, f) (fits _ _ refl)
+
+pub entry-fits : (b : List ℕ) (p j : ℕ) (wrong : Bool) → length (entryLine b p j wrong) ≤ lineRoom
+unfolding entryLine asciiFrom ascii
+entry-fits b p j wrong = fits _ _ refl

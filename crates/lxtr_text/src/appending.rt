@@ -1,0 +1,17 @@
+// Bytes put behind what is in a lent line. What does not go into the line is left out, so none of the functions here and above asks for
+// room. Each answers the place behind what it put.
+ghost use mathlib.Core.List.{[], _∷_};
+ghost use Prim.Native.Nat.{_≤_};
+ghost use lib.ListN.{length};
+ghost use Rattle.lxtr_text.specs.Appends.{Appended};
+
+pub fn append_byte(line: &mut [u8], at: usize, x: u8) -> usize
+    requires { ⌜ at ≤ length (now line) ⌝ }
+    ensures { λ r. ⌜ Appended (now (line .entry)) at (x ∷ []) (now (line .exit)) r ⌝ }
+{
+    if at < line.len() {
+        line[at] = x;
+        return at + 1;
+    }
+    at
+}

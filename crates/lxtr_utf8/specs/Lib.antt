@@ -1,0 +1,10 @@
+-- What RFC 3629 promises of the definitions, and a table of examples; then the laws that prove this and the functions. Of these a
+-- reader of the contracts meets, in private functions, the definitions that open Fronts and Decoding.
+pub mod Rfc3629
+pub mod Utf8Examples
+pub mod Fronts
+pub mod Texts
+pub mod Order
+pub mod Octets
+pub mod Encoded
+pub mod Decoding

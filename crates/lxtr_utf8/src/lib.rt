@@ -1,0 +1,70 @@
+// Text in UTF-8 (RFC 3629) as labels: how many it has, and the labels written into lent room as a query has them. Nothing is
+// assumed of the text. That the order of labels is the order of the bytes, and that there is one reading of a text, is in specs/.
+mod characters; // the character that a text begins with
+
+ghost use mathlib.Core.Path.{_≡_};
+ghost use Prim.Native.Nat.{_*_, _≤_};
+ghost use lib.ListN.{length};
+ghost use Rattle.lxtr_spec.specs.Words.{beWords};
+ghost use Rattle.lxtr_laws.specs.Overlays.{over};
+ghost use Rattle.lxtr_command_spec.specs.Utf8.{countOf, decodingOf};
+ghost use Rattle.lxtr_utf8.specs.Decoding.{labelsIn, IsText};
+use crate::characters::first_character;
+use lxtr_command_spec::Decoded;
+use lxtr_command_spec::NO_ROOM;
+use lxtr_command_spec::NOT_UTF8;
+use lxtr_image::words::put_be32;
+
+// How many labels the text has, or that it is not UTF-8.
+pub fn count_labels(text: &[u8]) -> Decoded
+    ensures { λ r. ⌜ r ≡ countOf (now (text .entry)) ⌝ }
+{
+    let mut at = 0;
+    let mut count = 0;
+    while at < text.len() {
+        let length = first_character(&text[at..]).length;
+        if length == 0 {
+            return Decoded {
+                problem: NOT_UTF8,
+                count: 0,
+            };
+        }
+        at += length;
+        count += 1;
+    }
+    Decoded { problem: 0, count }
+}
+
+// The labels of a text that is UTF-8, at the front of room that is long enough.
+fn put_labels(text: &[u8], room: &mut [u8])
+    requires { ⌜ IsText (now text) ⌝ }
+    requires { ⌜ 4 * length (labelsIn (now text)) ≤ length (now room) ⌝ }
+    ensures { λ _. ⌜ now (room .exit) ≡ over (now (room .entry)) 0 (beWords (labelsIn (now (text .entry)))) ⌝ }
+{
+    let mut at = 0;
+    let mut i = 0;
+    while at < text.len() {
+        let next = first_character(&text[at..]);
+        put_be32(room, 4 * i, next.number);
+        at += next.length;
+        i += 1;
+    }
+}
+
+// Decodes the text into the room, four bytes a label, big-endian. Where there is a problem nothing is written.
+pub fn decode(text: &[u8], room: &mut [u8]) -> Decoded
+    ensures { λ r. ⌜ record { answer = r; room = now (room .exit) } ≡ decodingOf (now (text .entry)) (now (room .entry)) ⌝ }
+{
+    let counted = count_labels(text);
+    if counted.problem != 0 {
+        return counted;
+    }
+    if room.len() / 4 < counted.count {
+        return Decoded {
+            problem: NO_ROOM,
+            count: 0,
+        };
+    }
+    put_labels(text, room);
+    counted
+}

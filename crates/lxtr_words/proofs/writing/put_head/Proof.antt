@@ -1,0 +1,17 @@
+-- One store, and the count behind it.
+use borrow.Author.Needs.{needs}
+use mathlib.Core.Path.{_∙_}
+use native.Mathlib.Omega.{arith}
+use lib.ListN.{length-set}
+use Rattle.lxtr_laws.specs.Overlays.{byte-before}
+use Rattle.lxtr_words.proofs.writing.put_head.Statement.{statement}
+use Rattle.lxtr_words.proofs.writing.put_head.Tie as tie
+
+pub put-head-spec : {M : Type 1} → statement M
+put-head-spec =
+    tie.close
+    (tie.spec
+    (λ c. search needs)
+    (λ c κs. search needs)
+    (λ c. c .before .before .put-be32 .kept .0 ∙ length-set (c .before .before .before .before .before .args .out .now) 0 1)
+    (λ c. byte-before _ _ _ _ _ (omega arith) (c .before .before .put-be32 .ensures)))

@@ -1,0 +1,93 @@
+// A text file of one word per line, in UTF-8, as a key list: sorted, each word once. Nothing is assumed of the text.
+// Any caller may use `key_list`, and `mark_length` for a text with a byte order mark; the other functions are parts of the first. A word is known by the place in the text where it starts.
+mod lines; // the lines of a text, and the word of each
+mod problems; // lines that make no word
+mod order; // which of two words comes first
+mod table; // the words in order
+mod writing; // the key list of such a table
+
+ghost use mathlib.Core.Path.{_≡_};
+ghost use Prim.Native.Nat.{_≤_};
+ghost use lib.ListN.{length};
+ghost use Rattle.lxtr_spec.specs.KeyLists.{maxKeys};
+ghost use Rattle.lxtr_command_spec.specs.WordLists.{markLength, linesOf, keysOfText, keyed, keyedOf};
+ghost use Rattle.lxtr_words.specs.Tables.{keysOf, LinesRight, Table};
+use crate::problems::first_problem;
+use crate::table::TABLE_SIZE;
+use crate::table::sort_words;
+use crate::writing::list_length;
+use crate::writing::put_list;
+use lxtr_command_spec::Keyed;
+use lxtr_command_spec::MANY_WORDS;
+use lxtr_command_spec::NO_ROOM;
+use lxtr_spec::MAX_KEYS;
+
+// A problem that no single line has.
+fn refused(problem: u8) -> Keyed
+    ensures { λ r. ⌜ r ≡ record { problem = problem; line = 0; count = 0; length = 0 } ⌝ }
+{
+    Keyed {
+        problem,
+        line: 0,
+        count: 0,
+        length: 0,
+    }
+}
+
+// The key list of a table of words.
+fn list_words(text: &[u8], starts: &[usize], out: &mut [u8]) -> Keyed
+    requires { ⌜ Table (now text) (now starts) ⌝ }
+    requires { ⌜ length (now starts) ≤ maxKeys ⌝ }
+    ensures { λ r. ⌜ record { answer = r; output = now (out .exit) } ≡ keyed (keysOf (now (text .entry)) (now (starts .entry))) (now (out .entry)) ⌝ }
+{
+    let length = list_length(text, starts);
+    if out.len() < length {
+        return refused(NO_ROOM);
+    }
+    put_list(text, starts, out);
+    Keyed {
+        problem: 0,
+        line: 0,
+        count: starts.len(),
+        length,
+    }
+}
+
+// The key list of lines that have no problem.
+fn list_lines(text: &[u8], out: &mut [u8]) -> Keyed
+    requires { ⌜ LinesRight (linesOf (now text)) ⌝ }
+    ensures { λ r. ⌜ record { answer = r; output = now (out .exit) } ≡ keyed (keysOfText (now (text .entry))) (now (out .entry)) ⌝ }
+{
+    let mut starts = [0usize; TABLE_SIZE];
+    let count = sort_words(text, &mut starts);
+    if MAX_KEYS < count {
+        return refused(MANY_WORDS);
+    }
+    list_words(text, &starts[..count], out)
+}
+
+// Makes the key list of the words of a text, one to a line: sorted, each once, at the front of the output. Where there is a problem
+// nothing is written.
+pub fn key_list(text: &[u8], out: &mut [u8]) -> Keyed
+    ensures { λ r. ⌜ record { answer = r; output = now (out .exit) } ≡ keyedOf (now (text .entry)) (now (out .entry)) ⌝ }
+{
+    let found = first_problem(text);
+    if found.problem != 0 {
+        return found;
+    }
+    list_lines(text, out)
+}
+
+// How many bytes the byte order mark at the text's front has; the words are behind it.
+pub fn mark_length(text: &[u8]) -> usize
+    ensures { λ r. ⌜ r ≡ markLength (now (text .entry)) ⌝ }
+    ensures { λ r. ⌜ r ≤ length (now (text .entry)) ⌝ }
+{
+    if text.len() < 3 {
+        return 0;
+    }
+    if (text[0] == 0xEF) & (text[1] == 0xBB) & (text[2] == 0xBF) {
+        return 3;
+    }
+    0
+}

@@ -1,0 +1,98 @@
+// The key list of a table of words: a version byte 1, a count in four bytes, then per key a length byte and its labels, four bytes
+// each, big-endian.
+ghost use mathlib.Core.Path.{_≡_};
+ghost use mathlib.Core.List.{_∷_};
+ghost use Prim.Native.Nat.{_+_, _*_, _≤_};
+ghost use lib.ListN.{length};
+ghost use Rattle.lxtr_spec.specs.Words.{beBytes, beWords};
+ghost use Rattle.lxtr_spec.specs.Labels.{maxLabels};
+ghost use Rattle.lxtr_spec.specs.KeyLists.{maxKeys};
+ghost use Rattle.lxtr_spec.specs.Samples.{keyRecords, keyList};
+ghost use Rattle.lxtr_laws.specs.Overlays.{over};
+ghost use Rattle.lxtr_words.specs.Tables.{keyOf, keysOf, WordRight, Table};
+use crate::lines::word_at;
+use lxtr_image::words::put_be32;
+use lxtr_utf8::count_labels;
+use lxtr_utf8::decode;
+
+// Where the first key goes.
+const KEYS_AT: usize = 5;
+
+// How many labels a word has.
+fn label_count(text: &[u8], start: usize) -> usize
+    requires { ⌜ WordRight (now text) start ⌝ }
+    ensures { λ r. ⌜ (r ≡ length (keyOf (now (text .entry)) start)) × (r ≤ maxLabels) ⌝ }
+{
+    count_labels(word_at(text, start)).count
+}
+
+// How many bytes the key list has.
+pub fn list_length(text: &[u8], starts: &[usize]) -> usize
+    requires { ⌜ Table (now text) (now starts) ⌝ }
+    requires { ⌜ length (now starts) ≤ maxKeys ⌝ }
+    ensures { λ r. ⌜ r ≡ length (keyList (keysOf (now (text .entry)) (now (starts .entry)))) ⌝ }
+{
+    let mut total = KEYS_AT;
+    let mut i: usize = 0;
+    while i < starts.len() {
+        total += 1 + 4 * label_count(text, starts[i]);
+        i += 1;
+    }
+    total
+}
+
+// Version 1 and a count.
+fn put_head(out: &mut [u8], count: u32)
+    requires { ⌜ 5 ≤ length (now out) ⌝ }
+    ensures { λ _. ⌜ now (out .exit) ≡ over (now (out .entry)) 0 (1 ∷ beBytes count) ⌝ }
+{
+    out[0] = 1;
+    put_be32(out, 1, count);
+}
+
+// The labels of a word, from a place on; answers how many they are.
+fn put_labels(text: &[u8], start: usize, out: &mut [u8], at: usize) -> usize
+    requires { ⌜ WordRight (now text) start ⌝ }
+    requires { ⌜ at + 4 * length (keyOf (now text) start) ≤ length (now out) ⌝ }
+    ensures { λ r. ⌜ r ≡ length (keyOf (now (text .entry)) start) ⌝ }
+    ensures { λ _. ⌜ now (out .exit) ≡ over (now (out .entry)) at (beWords (keyOf (now (text .entry)) start)) ⌝ }
+{
+    decode(word_at(text, start), &mut out[at..]).count
+}
+
+// The key of a word, from a place on; answers the place behind it.
+fn put_key(text: &[u8], start: usize, out: &mut [u8], at: usize) -> usize
+    requires { ⌜ WordRight (now text) start ⌝ }
+    requires { ⌜ at + 1 + 4 * length (keyOf (now text) start) ≤ length (now out) ⌝ }
+    ensures { λ r. ⌜ r ≡ at + 1 + 4 * length (keyOf (now (text .entry)) start) ⌝ }
+    ensures { λ _. ⌜ now (out .exit) ≡ over (now (out .entry)) at (length (keyOf (now (text .entry)) start) ∷ beWords (keyOf (now (text .entry)) start)) ⌝ }
+{
+    let count = put_labels(text, start, out, at + 1);
+    out[at] = count as u8;
+    at + 1 + 4 * count
+}
+
+// The keys of all words.
+fn put_keys(text: &[u8], starts: &[usize], out: &mut [u8])
+    requires { ⌜ Table (now text) (now starts) ⌝ }
+    requires { ⌜ 5 + length (keyRecords (keysOf (now text) (now starts))) ≤ length (now out) ⌝ }
+    ensures { λ _. ⌜ now (out .exit) ≡ over (now (out .entry)) 5 (keyRecords (keysOf (now (text .entry)) (now (starts .entry)))) ⌝ }
+{
+    let mut at = KEYS_AT;
+    let mut i: usize = 0;
+    while i < starts.len() {
+        at = put_key(text, starts[i], out, at);
+        i += 1;
+    }
+}
+
+// The key list, at the front of the output.
+pub fn put_list(text: &[u8], starts: &[usize], out: &mut [u8])
+    requires { ⌜ Table (now text) (now starts) ⌝ }
+    requires { ⌜ length (now starts) ≤ maxKeys ⌝ }
+    requires { ⌜ length (keyList (keysOf (now text) (now starts))) ≤ length (now out) ⌝ }
+    ensures { λ _. ⌜ now (out .exit) ≡ over (now (out .entry)) 0 (keyList (keysOf (now (text .entry)) (now (starts .entry)))) ⌝ }
+{
+    put_head(out, starts.len() as u32);
+    put_keys(text, starts, out);
+}
