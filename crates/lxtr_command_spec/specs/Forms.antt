@@ -43,7 +43,7 @@ completionLine p = decimal (p .1) ++ (tab ∷ keyText (p .0))
 
 -- a prefix: length, value, text and labels
 unfoldable pub prefixLine : ℕ → ℕ → List ℕ → List ℕ
-prefixLine length value xs = decimal length ++ (tab ∷ completionLine (xs, value))
+prefixLine count value xs = decimal count ++ (tab ∷ completionLine (xs, value))
 
 -- the next number; 0 where none is left
 unfoldable pub nextNumber : List ℕ → ℕ
