@@ -6,7 +6,7 @@ ghost use Rattle.lxtr_text.specs.Records.{isWholeRecord};
 use libc::STDIN_FILENO;
 use libc::STDOUT_FILENO;
 use lxtr_build::build;
-use lxtr_complete::HEAD_LENGTH;
+use lxtr_bytes::heads::HEAD_LENGTH;
 use lxtr_complete::complete;
 use lxtr_text::LINE_ROOM;
 use lxtr_text::is_whole_record;

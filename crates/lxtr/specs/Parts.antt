@@ -7,7 +7,7 @@ use mathlib.Core.Option.{Option, some, none}
 use mathlib.Core.Bool.{Bool, true, false}
 use lib.Dec.{ltb}
 use lib.ListN.{length, drop, length-append}
-use Rattle.lxtr_spec.specs.Words.{beWords}
+use Rattle.lxtr_spec.specs.Numbers.{beWords}
 use Rattle.lxtr_spec.specs.Refusals.{headerRefusal}
 use Rattle.lxtr_laws.specs.Passed.{Passed, header-passed}
 use Rattle.lxtr_laws.specs.ByteOrders.{big, words-size}

@@ -9,7 +9,7 @@ use crate::output::say;
 use crate::rooms::LISTING_ROOM;
 use crate::words::refuse;
 use crate::words::refuse_at;
-use lxtr_complete::HEAD_LENGTH;
+use lxtr_bytes::heads::HEAD_LENGTH;
 use lxtr_spec::Found;
 use lxtr_spec::LENGTH_COUNT;
 use lxtr_spec::MAX_LABELS;

@@ -7,9 +7,9 @@ ghost use Rattle.lxtr_spec.specs.Image.{labelCount};
 ghost use Rattle.lxtr_spec.specs.Refusals.{sameLabel, labelWrong, labelsWrong};
 ghost use Rattle.lxtr_laws.specs.Passed.{Passed};
 ghost use Rattle.lxtr_check.specs.Chains.{chainCount, chainOf, Chained};
+use lxtr_bytes::labels::is_scalar;
 use lxtr_image::code_map::label_at;
 use lxtr_image::code_map::label_count;
-use lxtr_image::labels::is_scalar;
 use lxtr_spec::MAX_LISTED;
 
 // How many chains there are: 4,096, a power of two, so that the remainder needs no division. Scalar values are below 0x110000, so

@@ -5,7 +5,7 @@ use mathlib.Core.Option.{Option, some, none}
 use mathlib.Core.Bool.{Bool, true, false, _&&_, cond}
 use lib.ListN.{length, drop}
 use lib.Dec.{ltb, eqb}
-use Rattle.lxtr_spec.specs.Words.{byteAt, beWords}
+use Rattle.lxtr_spec.specs.Numbers.{byteAt, beWords}
 use Rattle.lxtr_spec.specs.Labels.{isScalar}
 use Rattle.lxtr_command_spec.specs.declared.Decoded.{Decoded}
 

@@ -9,7 +9,7 @@ use lib.ListN.{length, take, set, getD, length-set}
 use lib.Seq.{take-suc, take-suc-set, take-length}
 use lib.Dec.{eqb}
 use borrow.Author.Tests.{lt-ltb, le-ltb}
-use Rattle.lxtr_spec.specs.Words.{beBytes}
+use Rattle.lxtr_spec.specs.Numbers.{beBytes}
 use Rattle.lxtr_spec.specs.Labels.{maxLabels, lengthCount, labelsOf}
 use Rattle.lxtr_spec.specs.Image.{slotCount}
 use Rattle.lxtr_spec.specs.Refusals.{refuseIf, firstRefusal, unlessRefused, headerRefusal, bodyRefusal, imageRefusal}

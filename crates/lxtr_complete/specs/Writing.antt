@@ -11,7 +11,7 @@ use lib.ListN.{length, take, set, getD}
 use lib.Seq.{length-take-le, take-suc}
 use lib.Dec.{leb, eqb}
 use borrow.Author.Tests.{leb-true, le-leb, lt-leb, eqb-false, eq-eqb, ne-eqb}
-use Rattle.lxtr_spec.specs.Words.{beBytes, beWords}
+use Rattle.lxtr_spec.specs.Numbers.{beBytes, beWords}
 use Rattle.lxtr_spec.specs.Labels.{maxLabels, lengthCount, Pair}
 use Rattle.lxtr_spec.specs.Completions.{recordOf}
 use Rattle.lxtr_laws.specs.ByteOrders.{big, words-append, words-one}

@@ -10,7 +10,7 @@ use lib.ListN.{length, take, drop, length-append}
 use lib.Seq.{drop-at, length-take-le}
 use lib.Dec.{leb, ltb, eqb, leb·suc-suc}
 use borrow.Author.Tests.{leb-true, leb-false, lt-ltb, eq-eqb, ne-eqb}
-use Rattle.lxtr_spec.specs.Words.{beBytes}
+use Rattle.lxtr_spec.specs.Numbers.{beBytes}
 use Rattle.lxtr_spec.specs.Labels.{Pair}
 use Rattle.lxtr_spec.specs.Completions.{recordOf, recordsOf, fitting, listingOf, listedIn, completionAnswer, written}
 use Rattle.lxtr_laws.specs.Lengths.{records-length, listing-length}

@@ -4,38 +4,25 @@ mod records; // one record after the other
 mod listing; // the pairs below a slot
 
 ghost use mathlib.Core.Path.{_≡_};
-ghost use mathlib.Core.List.{[], _∷_};
+ghost use mathlib.Core.List.{[]};
 ghost use Prim.Native.Nat.{_-_, _≤_, _<_};
 ghost use lib.ListN.{length, take};
-ghost use Rattle.lxtr_spec.specs.Words.{beBytes};
 ghost use Rattle.lxtr_spec.specs.Labels.{maxLabels, lengthCount, labelsOf};
 ghost use Rattle.lxtr_spec.specs.Image.{slotCount};
 ghost use Rattle.lxtr_spec.specs.Completions.{listFrom, pairsBelow, written, completionRefusal, completionOf};
 ghost use Rattle.lxtr_laws.specs.Facts.{Accepted};
-ghost use Rattle.lxtr_laws.specs.Overlays.{over};
 ghost use Rattle.lxtr_complete.specs.Listing.{ListReady};
 use crate::listing::list_below;
+use lxtr_bytes::heads::HEAD_LENGTH;
+use lxtr_bytes::heads::put_head;
+use lxtr_bytes::labels::label_at;
+use lxtr_bytes::labels::label_count;
 use lxtr_check::body_refusal;
-use lxtr_image::words::put_be32;
-use lxtr_search::query::label_at;
-use lxtr_search::query::label_count;
-use lxtr_search::query::search_refusal;
-use lxtr_search::walk::walk_within;
 use lxtr_spec::Completion;
 use lxtr_spec::Found;
 use lxtr_spec::LENGTH_COUNT;
-
-// How many bytes version and count take, at the front of the room.
-pub const HEAD_LENGTH: usize = 5;
-
-// Version 1 and a count.
-fn put_head(room: &mut [u8], count: u32)
-    requires { ⌜ 5 ≤ length (now room) ⌝ }
-    ensures { λ _. ⌜ now (room .exit) ≡ over (now (room .entry)) 0 (1 ∷ beBytes count) ⌝ }
-{
-    room[0] = 1;
-    put_be32(room, 1, count);
-}
+use lxtr_walk::search_refusal;
+use lxtr_walk::walk_within;
 
 // The labels of a query, at the front of a path.
 fn fill_path(query: &[u8], path: &mut [u32])
@@ -55,7 +42,7 @@ fn list_none(room: &mut [u8]) -> Completion
     requires { ⌜ 5 ≤ length (now room) ⌝ }
     ensures { λ r. ⌜ record { answer = r; room = now (room .exit) } ≡ written (now (room .entry)) [] ⌝ }
 {
-    put_head(room, 0);
+    put_head(room, 0, 0);
     Completion {
         refusal: 0,
         count: 0,
@@ -79,7 +66,7 @@ fn list_with_head(
     let mut records = 0;
     let end = list_below(image, left, n, path, room, HEAD_LENGTH, &mut records);
     let count = records as u32;
-    put_head(room, count);
+    put_head(room, 0, count);
     Completion {
         refusal: 0,
         count,

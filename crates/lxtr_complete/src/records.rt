@@ -2,11 +2,11 @@
 ghost use mathlib.Core.Path.{_≡_};
 ghost use Prim.Native.Nat.{_+_, _*_, _≤_};
 ghost use lib.ListN.{length, take, getD};
-ghost use Rattle.lxtr_spec.specs.Words.{beWords};
+ghost use Rattle.lxtr_spec.specs.Numbers.{beWords};
 ghost use Rattle.lxtr_spec.specs.Labels.{lengthCount};
 ghost use Rattle.lxtr_laws.specs.Overlays.{over};
 ghost use Rattle.lxtr_complete.specs.Writing.{state, put, PutReady};
-use lxtr_image::words::put_be32;
+use lxtr_bytes::numbers::put_be32;
 use lxtr_spec::LENGTH_COUNT;
 
 // The first `len` words of a path.

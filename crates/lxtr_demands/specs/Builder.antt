@@ -7,7 +7,7 @@ use mathlib.Core.List.{List, [], _++_, List·Memᴰ}
 use mathlib.Core.Option.{some, none}
 use mathlib.Core.Bool.{false}
 use lib.ListN.{length, take, drop}
-use Rattle.lxtr_spec.specs.Words.{beWords}
+use Rattle.lxtr_spec.specs.Numbers.{beWords}
 use Rattle.lxtr_spec.specs.Labels.{maxSlots, labelsOf, Pair}
 use Rattle.lxtr_spec.specs.Joining.{slotUnder}
 use Rattle.lxtr_spec.specs.Refusals.{checkOf}

@@ -7,7 +7,7 @@ use mathlib.Core.Bool.{Bool, true, false, cond}
 use lib.Dec.{ltb}
 use lib.ListN.{length, replicate}
 use Rattle.lxtr_spec.specs.Ranges.{anyBelow, countBelow, firstFrom, firstBelow, concatFrom}
-use Rattle.lxtr_spec.specs.Words.{le32, be32, leBytes, beBytes, leWords, beWords}
+use Rattle.lxtr_spec.specs.Numbers.{le32, be32, leBytes, beBytes, leWords, beWords}
 use Rattle.lxtr_spec.specs.Labels.{Pair, isScalar, maxLabels, lengthCount, comesBefore, labelsFrom, labelsOf}
 use Rattle.lxtr_spec.specs.Joining.{slotUnder, codeUnder}
 use Rattle.lxtr_spec.specs.Image.{magic, version, slotCount, childCount, mapLength, baseWord, checkWord, isLeaf, hasLeaf, parent, hasParent, base, valueNumber, slotFrom, codeTo, offset, child, listWidth, mapVersion, labelCount, labelAt, labelOfCode, codeFrom, codeOf}

@@ -4,7 +4,7 @@ use Prim.Native.String.{String}
 use mathlib.Core.Path.{_≡_, refl}
 use mathlib.Core.List.{List, [], _∷_}
 use mathlib.Core.Bool.{Bool, true, false}
-use Rattle.lxtr_spec.specs.Words.{le32, be32, leBytes, beBytes, leWords, beWords}
+use Rattle.lxtr_spec.specs.Numbers.{le32, be32, leBytes, beBytes, leWords, beWords}
 use Rattle.lxtr_spec.specs.Labels.{isScalar}
 use Rattle.lxtr_spec.specs.Joining.{codeUnder}
 use Rattle.lxtr_spec.specs.Image.{magic, slotCount, childCount, baseWord, checkWord, isLeaf, hasLeaf, parent, base, valueNumber, codeTo, child, labelCount, labelAt}

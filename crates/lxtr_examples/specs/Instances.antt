@@ -10,7 +10,7 @@ use mathlib.Core.Option.{Option, some, none}
 use mathlib.Core.Bool.{cond}
 use lib.ListN.{length, drop, getD, replicate}
 use lib.Dec.{ltb}
-use Rattle.lxtr_spec.specs.Words.{beWords}
+use Rattle.lxtr_spec.specs.Numbers.{beWords}
 use Rattle.lxtr_spec.specs.Labels.{labelsOf, Pair}
 use Rattle.lxtr_spec.specs.Refusals.{checkOf}
 use Rattle.lxtr_spec.specs.Searches.{ExactAnswer, ProbeAnswer, exactOf, prefixesAnswer, prefixesOf, probeOf}

@@ -6,7 +6,7 @@ use mathlib.Core.List.{List, [], _∷_}
 use mathlib.Core.Option.{some, none}
 use mathlib.Core.Bool.{false}
 use lib.ListN.{replicate, set}
-use Rattle.lxtr_spec.specs.Words.{beWords}
+use Rattle.lxtr_spec.specs.Numbers.{beWords}
 use Rattle.lxtr_spec.specs.Builds.{imageBytes}
 use Rattle.lxtr_spec.specs.Samples.{nodes3, offsets3, children3, labels3, p3, p7, p9-labels, p9-longer, p11}
 use Rattle.lxtr_demands.specs.Rows.{Example, refused, exact, prefixes, longest, probe, query-refused, completion-refused, completion-stops, AllHold, _and_, computing}

@@ -5,7 +5,7 @@ use mathlib.Core.Bool.{Bool, true, false, _||_, not}
 use mathlib.Core.List.{List, [], _∷_}
 use native.Mathlib.Omega.{arith}
 use lib.Dec.{eqb}
-use Rattle.lxtr_spec.specs.Words.{byteAt, le32}
+use Rattle.lxtr_spec.specs.Numbers.{byteAt, le32}
 use Rattle.lxtr_spec.specs.Ranges.{anyBelow}
 use Rattle.lxtr_spec.specs.Image.{magic}
 use Rattle.lxtr_spec.specs.Refusals.{byteDiffers, magicDiffers, reservedSet}

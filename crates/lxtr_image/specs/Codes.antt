@@ -8,7 +8,7 @@ use native.Mathlib.Nat.{sub-zero}
 use native.Mathlib.Omega.{arith}
 use borrow.Author.Tests.{eq-eqb, ne-eqb}
 use lib.ListN.{length}
-use Rattle.lxtr_spec.specs.Words.{be32}
+use Rattle.lxtr_spec.specs.Numbers.{be32}
 use Rattle.lxtr_laws.specs.Passed.{Passed}
 use Rattle.lxtr_laws.specs.Ranges.{more}
 use Rattle.lxtr_spec.specs.Image.{mapLength, mapAt, labelCount, labelAt, codeFrom, codeOf}

@@ -1,4 +1,3 @@
 -- What the code computes, turn by turn.
-pub mod Swapping
 pub mod Codes
 pub mod Blocks

@@ -7,7 +7,10 @@ ghost use Rattle.lxtr_laws.specs.Passed.{Whole, Passed};
 ghost use Rattle.lxtr_image.specs.Blocks.{blockSize, weight, blockSum};
 use crate::sections::map_at;
 use crate::sections::map_length;
-use crate::words::be32_at;
+use lxtr_bytes::heads::HEAD_LENGTH;
+use lxtr_bytes::heads::count_at;
+use lxtr_bytes::heads::version_at;
+use lxtr_bytes::numbers::be32_at;
 use lxtr_spec::Found;
 
 // How many places of the map are compared at a time.
@@ -21,8 +24,7 @@ pub fn map_version(image: &[u8]) -> u8
     requires { ⌜ 5 ≤ mapLength (now image) ⌝ }
     ensures { λ r. ⌜ r ≡ mapVersion (now (image .entry)) ⌝ }
 {
-    let at = map_at(image);
-    image[at]
+    version_at(image, map_at(image))
 }
 
 // How many labels are listed.
@@ -31,7 +33,7 @@ pub fn label_count(image: &[u8]) -> u32
     requires { ⌜ 5 ≤ mapLength (now image) ⌝ }
     ensures { λ r. ⌜ r ≡ labelCount (now (image .entry)) ⌝ }
 {
-    be32_at(image, map_at(image) + 1)
+    count_at(image, map_at(image))
 }
 
 // The same in an image that passed refusals 1 to 8, by the length of its map.
@@ -49,7 +51,7 @@ pub fn label_at(image: &[u8], i: u32) -> u32
     ensures { λ r. ⌜ r ≡ labelAt (now (image .entry)) i ⌝ }
 {
     let map = image.len() - map_length(image) as usize;
-    be32_at(image, map + 5 + 4 * i as usize)
+    be32_at(image, map + HEAD_LENGTH + 4 * i as usize)
 }
 
 // What place k of a block adds to its sum: nothing where the label is another; otherwise MATCH, and the place counted from 1.

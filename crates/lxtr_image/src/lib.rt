@@ -1,7 +1,5 @@
 // Reads the bytes of an LXTR image: its numbers, its parts, and the code of a label. The functions are for the crates above: most
 // require what answer 0 of `lxtr_header::header_refusal` leaves known (`lxtr_laws`, Passed).
-pub mod words; // numbers of 32 bits in bytes
-pub mod labels; // Unicode scalar values
 pub mod sections; // the header's three numbers, and where each part starts
 pub mod nodes; // the two words of a slot
 pub mod joining; // slot, base and code

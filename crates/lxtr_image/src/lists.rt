@@ -5,7 +5,7 @@ ghost use Rattle.lxtr_spec.specs.Image.{slotCount, childCount, offset, child, l
 ghost use Rattle.lxtr_laws.specs.Passed.{Whole};
 use crate::sections::children_at;
 use crate::sections::offsets_at;
-use crate::words::le32_at;
+use lxtr_bytes::numbers::le32_at;
 
 pub fn offset_at(image: &[u8], p: u32) -> u32
     requires { ⌜ Whole (now image) ⌝ }

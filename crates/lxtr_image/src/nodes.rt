@@ -5,7 +5,7 @@ ghost use Rattle.lxtr_spec.specs.Image.{slotCount, baseWord, checkWord, isLeaf,
 ghost use Rattle.lxtr_laws.specs.Passed.{Whole};
 use crate::sections::HEADER_LENGTH;
 use crate::sections::slot_count;
-use crate::words::le32_at;
+use lxtr_bytes::numbers::le32_at;
 
 // IS_LEAF of a base, HAS_LEAF of a check.
 pub const TOP_BIT: u32 = 0x8000_0000;

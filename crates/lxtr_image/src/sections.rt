@@ -4,7 +4,7 @@ ghost use Prim.Native.Nat.{_≤_};
 ghost use lib.ListN.{length};
 ghost use Rattle.lxtr_spec.specs.Image.{headerLength, slotCount, childCount, mapLength, offsetsAt, childrenAt, mapAt};
 ghost use Rattle.lxtr_laws.specs.Passed.{Sized};
-use crate::words::le32_at;
+use lxtr_bytes::numbers::le32_at;
 
 pub const HEADER_LENGTH: usize = 24;
 

@@ -11,7 +11,7 @@ use borrow.Author.Tests.{lt-ltb, le-ltb, le-leb, lt-leb, eq-eqb, ne-eqb}
 use lib.Dec.{ltb}
 use lib.ListN.{length, drop}
 use Rattle.lxtr_spec.specs.Ranges.{anyBelow}
-use Rattle.lxtr_spec.specs.Words.{byteAt}
+use Rattle.lxtr_spec.specs.Numbers.{byteAt}
 use Rattle.lxtr_spec.specs.Labels.{maxLabels, comesBefore}
 use Rattle.lxtr_spec.specs.Refusals.{refuseIf, firstRefusal}
 use Rattle.lxtr_spec.specs.KeyLists.{listVersion, keyCount, keysAt, maxKeys, keyLength, keyLabel, nextKey, keyAt, noScalarAt, notAbove, keyRefusal, keysRefusal, listRefusal}
@@ -165,16 +165,16 @@ module _ (b : List ℕ) where
   unfolding listRefusal refuseIf firstRefusal
   list-short h = rw (listRefusal, lt-ltb (length b) keysAt h) refl
 
-  module _ (long : keysAt ≤ length b) where
-    pub list-version : byteAt b 0 ≢ 1 → 15 ≡ listRefusal b
+  module _ (long : keysAt ≤ length b) (v : ℕ) (version : v ≡ byteAt b 0) where
+    pub list-version : v ≢ 1 → 15 ≡ listRefusal b
     unfolding listRefusal listVersion refuseIf firstRefusal
-    list-version d = rw (listRefusal, le-ltb (length b) keysAt long, ne-eqb (byteAt b 0) 1 d) refl
+    list-version d = rw (listRefusal, le-ltb (length b) keysAt long, ← version, ne-eqb v 1 d) refl
 
-    module _ (version : byteAt b 0 ≡ 1) (n : ℕ) (count : n ≡ keyCount b) where
+    module _ (known : v ≡ 1) (n : ℕ) (count : n ≡ keyCount b) where
       pub list-many : maxKeys < n → 16 ≡ listRefusal b
       unfolding listRefusal listVersion refuseIf firstRefusal
-      list-many h = rw (listRefusal, le-ltb (length b) keysAt long, eq-eqb (byteAt b 0) 1 version, ← count, lt-ltb maxKeys n h) refl
+      list-many h = rw (listRefusal, le-ltb (length b) keysAt long, ← version, eq-eqb v 1 known, ← count, lt-ltb maxKeys n h) refl
 
       pub list-keys : (r : ℕ) → n ≤ maxKeys → r ≡ keysRefusal b n 0 0 keysAt → r ≡ listRefusal b
       unfolding listRefusal listVersion refuseIf firstRefusal
-      list-keys r h e = rw (listRefusal, le-ltb (length b) keysAt long, eq-eqb (byteAt b 0) 1 version, ← count, le-ltb maxKeys n h) e
+      list-keys r h e = rw (listRefusal, le-ltb (length b) keysAt long, ← version, eq-eqb v 1 known, ← count, le-ltb maxKeys n h) e

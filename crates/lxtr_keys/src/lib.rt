@@ -7,18 +7,22 @@ ghost use Prim.Native.Nat.{_+_, _*_, _≤_, _<_};
 ghost use lib.ListN.{length};
 ghost use Rattle.lxtr_spec.specs.KeyLists.{keysAt, keyCount, keyLength, keyLabel, nextKey, listRefusal};
 use crate::refusals::keys_refusal;
-use lxtr_image::words::be32_at;
+use lxtr_bytes::heads::HEAD_LENGTH;
+use lxtr_bytes::heads::VERSION;
+use lxtr_bytes::heads::count_at;
+use lxtr_bytes::heads::version_at;
+use lxtr_bytes::numbers::be32_at;
 use lxtr_spec::MAX_KEYS;
 
 // Where the first key starts.
-pub const KEYS_AT: usize = 5;
+pub const KEYS_AT: usize = HEAD_LENGTH;
 
 // The number of keys that the list announces.
 pub fn key_count(keys: &[u8]) -> usize
     requires { ⌜ keysAt ≤ length (now keys) ⌝ }
     ensures { λ r. ⌜ r ≡ keyCount (now (keys .entry)) ⌝ }
 {
-    be32_at(keys, 1) as usize
+    count_at(keys, 0) as usize
 }
 
 // The number of labels of the key at a place.
@@ -52,7 +56,7 @@ pub fn list_refusal(keys: &[u8]) -> u8
     if keys.len() < KEYS_AT {
         return 15;
     }
-    if keys[0] != 1 {
+    if version_at(keys, 0) != VERSION {
         return 15;
     }
     let count = key_count(keys);

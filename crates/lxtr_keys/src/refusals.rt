@@ -12,7 +12,7 @@ use crate::KEYS_AT;
 use crate::key_label;
 use crate::key_length;
 use crate::next_key;
-use lxtr_image::labels::is_scalar;
+use lxtr_bytes::labels::is_scalar;
 use lxtr_spec::MAX_LABELS;
 
 // Label j of the key at a place is no scalar value.

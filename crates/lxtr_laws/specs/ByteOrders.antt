@@ -4,7 +4,7 @@ use mathlib.Core.Path.{_≡_, refl}
 use mathlib.Core.List.{List, [], _∷_, _++_, append-assoc, append-nil}
 use native.Mathlib.Omega.{arith}
 use lib.ListN.{length, length-append}
-use Rattle.lxtr_spec.specs.Words.{leBytes, beBytes, leWords, beWords}
+use Rattle.lxtr_spec.specs.Numbers.{leBytes, beBytes, leWords, beWords}
 
 pub record ByteOrder (bytes : ℕ → List ℕ) (words : List ℕ → List ℕ) : Type 0 where
   pub four : (x : ℕ) → length (bytes x) ≡ 4

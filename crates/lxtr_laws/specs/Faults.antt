@@ -10,7 +10,7 @@ use mathlib.Core.Bool.{true, false, _||_, true≢false}
 use lib.ListN.{length}
 use lib.Dec.{eqb}
 use Rattle.lxtr_spec.specs.Ranges.{anyBelow}
-use Rattle.lxtr_spec.specs.Words.{byteAt}
+use Rattle.lxtr_spec.specs.Numbers.{byteAt}
 use Rattle.lxtr_spec.specs.Labels.{isScalar}
 use Rattle.lxtr_spec.specs.Image.{headerLength, magic, slotCount, childCount, mapLength, isLeaf, parent, hasParent, base, offset, labelCount, labelAt}
 use Rattle.lxtr_spec.specs.Refusals.{tooShort, byteDiffers, magicDiffers, versionWrong, reservedSet, sizesWrong, lengthWrong, mapWrong, offsetEndsWrong, headerRefusal, sameLabel, labelWrong, labelsWrong, isUsedFrom2, isUsed, bothZero, usedSlotWrong, endExists, flagWrong, slotWrong, slotsWrong, offsetFalls, entryWrong, codeNotAbove, entryWrongIn, entriesWrong, childless, rootWrong, listsWrong, reaches, unreachable, someUnreachable, bodyRefusal, imageRefusal, isEnd}

@@ -4,7 +4,7 @@ use native.Mathlib.Omega.{arith}
 use mathlib.Core.Path.{_≡_, refl}
 use mathlib.Core.List.{List, [], _∷_}
 use lib.ListN.{length, length-append}
-use Rattle.lxtr_spec.specs.Words.{beBytes, beWords}
+use Rattle.lxtr_spec.specs.Numbers.{beBytes, beWords}
 use Rattle.lxtr_spec.specs.Labels.{Pair}
 use Rattle.lxtr_laws.specs.ByteOrders.{big, words-size}
 use Rattle.lxtr_spec.specs.Completions.{recordOf, recordsOf, listingOf, roomFor}

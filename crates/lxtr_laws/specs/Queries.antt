@@ -6,7 +6,7 @@ use native.Mathlib.Nat.{add-zero, zero-add, not-suc-le-zero}
 use native.Mathlib.Omega.{arith}
 use lib.ListN.{length, getD, take}
 use lib.Seq.{length-take-le, getD-take, ext-getD}
-use Rattle.lxtr_spec.specs.Words.{be32}
+use Rattle.lxtr_spec.specs.Numbers.{be32}
 use Rattle.lxtr_spec.specs.Labels.{labelsFrom, labelsOf}
 
 module _ (q : List ℕ) where

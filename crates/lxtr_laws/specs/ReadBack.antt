@@ -7,7 +7,7 @@ use mathlib.Core.List.{List, [], _∷_, _++_, append-assoc}
 use lib.Dec.{lit<}
 use lib.ListN.{getD, length}
 use lib.Seq.{getD-append-add}
-use Rattle.lxtr_spec.specs.Words.{le32, be32, leBytes, beBytes, leWords, beWords}
+use Rattle.lxtr_spec.specs.Numbers.{le32, be32, leBytes, beBytes, leWords, beWords}
 use Rattle.lxtr_laws.specs.ByteOrders.{ByteOrder, little, big}
 
 -- a number of 32 bits is made of its four digits of eight bits

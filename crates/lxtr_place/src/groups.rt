@@ -9,7 +9,7 @@ ghost use Rattle.lxtr_spec.specs.Placing.{endValue};
 ghost use Rattle.lxtr_build_laws.specs.KeyLists.{WholeKey, Ascending};
 ghost use Rattle.lxtr_place.specs.Groups.{groupOf, Grouped, Indexed, goesBy, isUnder, runOf};
 ghost use Rattle.lxtr_place.specs.Runs.{tails};
-use lxtr_image::words::index;
+use lxtr_bytes::numbers::index;
 use lxtr_keys::key_label;
 use lxtr_keys::key_length;
 use lxtr_keys::next_key;

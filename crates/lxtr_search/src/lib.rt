@@ -1,9 +1,6 @@
 // Searches LXTR images: exact match, prefixes, longest match and probe, for any bytes as image and query.
-// They walk every image that passes refusals 1 to 8, whether or not the check would accept it. First the parts they share,
-// then the four searches, which any caller may use. The functions of `query`, `walk` and `matches` are for the crates above:
-// most require what answer 0 of `query::search_refusal` leaves known.
-pub mod query; // the labels of a query, and the refusals before a search
-pub mod walk; // one step, the walk, and what is found where it ends
+// They walk every image that passes refusals 1 to 8, whether or not the check would accept it. Any caller may use the four searches;
+// `matches` is for the crates above.
 pub mod matches; // the prefixes of a query that have a value
 
 ghost use mathlib.Core.Path.{_≡_};
@@ -15,15 +12,15 @@ ghost use Rattle.lxtr_spec.specs.Answers.{found, exactMeans, probeMeans};
 ghost use Rattle.lxtr_laws.specs.Passed.{Passed};
 use crate::matches::longest_match;
 use crate::matches::put_prefixes;
-use crate::query::search_refusal;
-use crate::walk::longer_at;
-use crate::walk::value_at;
-use crate::walk::walk_within;
 use lxtr_spec::Exact;
 use lxtr_spec::Found;
 use lxtr_spec::LENGTH_COUNT;
 use lxtr_spec::Prefixes;
 use lxtr_spec::Probe;
+use lxtr_walk::longer_at;
+use lxtr_walk::search_refusal;
+use lxtr_walk::value_at;
+use lxtr_walk::walk_within;
 
 // The value of all labels of the query, in an image that passed 1 to 8.
 fn exact_value(image: &[u8], query: &[u8]) -> Found

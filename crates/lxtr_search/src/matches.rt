@@ -8,14 +8,14 @@ ghost use Rattle.lxtr_spec.specs.Searches.{prefixMatches, prefixesAnswer, prefi
 ghost use Rattle.lxtr_spec.specs.Answers.{found};
 ghost use Rattle.lxtr_laws.specs.Passed.{Passed};
 ghost use Rattle.lxtr_search.specs.Kept.{filled, withMatch, laterLength};
-use crate::query::label_at;
-use crate::query::label_count;
-use crate::query::search_refusal;
-use crate::walk::step_by;
-use crate::walk::value_at;
+use lxtr_bytes::labels::label_at;
+use lxtr_bytes::labels::label_count;
 use lxtr_spec::Found;
 use lxtr_spec::LENGTH_COUNT;
 use lxtr_spec::MAX_LABELS;
+use lxtr_walk::search_refusal;
+use lxtr_walk::step_by;
+use lxtr_walk::value_at;
 
 // How many labels of a query count: at most MAX_LABELS.
 fn counted_labels(query: &[u8]) -> u32

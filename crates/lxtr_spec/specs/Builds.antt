@@ -6,7 +6,7 @@ use mathlib.Core.Bool.{Bool, true, false, _&&_, _||_, cond}
 use lib.ListN.{length, take, drop, replicate}
 use lib.Dec.{leb, ltb, eqb}
 use Rattle.lxtr_spec.specs.Ranges.{concatFrom}
-use Rattle.lxtr_spec.specs.Words.{beBytes, leWords, beWords}
+use Rattle.lxtr_spec.specs.Numbers.{beBytes, leWords, beWords}
 use Rattle.lxtr_spec.specs.Labels.{lengthCount, maxSlots, maxListed, Pair}
 use Rattle.lxtr_spec.specs.Joining.{slotUnder}
 use Rattle.lxtr_spec.specs.Image.{magic, topBit, low31}

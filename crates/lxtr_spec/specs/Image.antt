@@ -4,7 +4,7 @@ use mathlib.Core.List.{List, [], _∷_}
 use mathlib.Core.Option.{Option, some, none}
 use mathlib.Core.Bool.{Bool, true, false, _&&_}
 use lib.Dec.{leb, ltb, eqb}
-use Rattle.lxtr_spec.specs.Words.{byteAt, le32, be32}
+use Rattle.lxtr_spec.specs.Numbers.{byteAt, le32, be32}
 use Rattle.lxtr_spec.specs.Joining.{slotUnder, codeUnder}
 
 -- Header of 24 bytes: the four bytes `LXTR`, version 3, three zeros, then three numbers N, E, M, then four zeros.

@@ -5,7 +5,7 @@ use mathlib.Core.Bool.{Bool, _&&_, _||_, not}
 use lib.ListN.{length}
 use lib.Dec.{leb, ltb, eqb}
 use Rattle.lxtr_spec.specs.Ranges.{anyBelow}
-use Rattle.lxtr_spec.specs.Words.{byteAt, be32}
+use Rattle.lxtr_spec.specs.Numbers.{byteAt, be32}
 use Rattle.lxtr_spec.specs.Labels.{isScalar, maxLabels, comesBefore, Pair}
 use Rattle.lxtr_spec.specs.Refusals.{refuseIf, firstRefusal}
 

@@ -4,7 +4,7 @@ use mathlib.Core.List.{List, [], _∷_}
 use mathlib.Core.Bool.{Bool, true, false, _&&_, _||_, not}
 use lib.ListN.{length}
 use lib.Dec.{leb, ltb, eqb}
-use Rattle.lxtr_spec.specs.Words.{be32}
+use Rattle.lxtr_spec.specs.Numbers.{be32}
 
 -- A label is a Unicode scalar value: 0 to 0x10FFFF without 0xD800 to 0xDFFF.
 unfoldable pub isScalar : ℕ → Bool

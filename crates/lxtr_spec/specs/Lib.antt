@@ -1,6 +1,6 @@
 -- Document 01 as definitions; each file names its section. They hold no proof. All but Sets and Meaning, which say what has to hold, compute.
 pub mod Ranges
-pub mod Words
+pub mod Numbers
 pub mod Labels
 pub mod Joining
 pub mod Image

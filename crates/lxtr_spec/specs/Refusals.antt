@@ -5,7 +5,7 @@ use mathlib.Core.Bool.{Bool, true, false, _&&_, _||_, not, Bool·beq}
 use lib.ListN.{length}
 use lib.Dec.{leb, ltb, eqb}
 use Rattle.lxtr_spec.specs.Ranges.{anyBelow, countBelow}
-use Rattle.lxtr_spec.specs.Words.{byteAt}
+use Rattle.lxtr_spec.specs.Numbers.{byteAt}
 use Rattle.lxtr_spec.specs.Labels.{isScalar, lengthCount, minSlots, maxSlots, maxListed}
 use Rattle.lxtr_spec.specs.Image.{headerLength, magic, version, slotCount, childCount, mapLength, imageLength, baseWord, checkWord, isLeaf, hasLeaf, parent, hasParent, base, codeTo, offset, child, listWidth, mapVersion, labelCount, labelAt}
 use Rattle.lxtr_spec.specs.declared.Verdict.{Verdict}

@@ -6,7 +6,7 @@ use mathlib.Core.List.{List, [], _∷_, _++_}
 use mathlib.Core.Option.{Option, some, none}
 use mathlib.Core.Bool.{true, false}
 use lib.ListN.{length}
-use Rattle.lxtr_spec.specs.Words.{byteAt}
+use Rattle.lxtr_spec.specs.Numbers.{byteAt}
 use Rattle.lxtr_spec.specs.Labels.{isScalar, maxLabels, valueLimit, minSlots, maxSlots, maxListed}
 use Rattle.lxtr_spec.specs.Image.{magic, version, slotCount, childCount, mapLength, imageLength, baseWord, checkWord, isLeaf, hasLeaf, parent, base, valueNumber, slotFrom, codeTo, offset, child, mapVersion, labelCount, labelAt, labelOfCode}
 

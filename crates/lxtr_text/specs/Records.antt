@@ -8,7 +8,7 @@ use borrow.Author.Tests.{not-false, lt-ltb, le-ltb, lt-leb, le-leb}
 use lib.ListN.{length, take, drop, getD, length-drop}
 use lib.Seq.{length-take-le, getD-take, getD-drop, ext-getD}
 use lib.Dec.{leb, ltb}
-use Rattle.lxtr_spec.specs.Words.{be32}
+use Rattle.lxtr_spec.specs.Numbers.{be32}
 use Rattle.lxtr_spec.specs.Labels.{maxLabels, labelsOf, Pair}
 use Rattle.lxtr_spec.specs.KeyLists.{keyLength, keyLabel, keyAt, nextKey}
 use Rattle.lxtr_laws.specs.Ranges.{tests}

@@ -7,7 +7,7 @@ ghost use Rattle.lxtr_command_spec.specs.Utf8.{tailByte, utf8};
 ghost use Rattle.lxtr_command_spec.specs.Forms.{isControl, shown, quoted};
 ghost use Rattle.lxtr_text.specs.Appends.{Appended};
 use crate::appending::append_byte;
-use lxtr_image::labels::is_scalar;
+use lxtr_bytes::labels::is_scalar;
 
 // Shown for a label that can't be shown as itself: U+FFFD.
 const REPLACEMENT: u32 = 0xFFFD;

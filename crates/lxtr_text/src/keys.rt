@@ -9,8 +9,8 @@ ghost use Rattle.lxtr_text.specs.Appends.{Appended};
 use crate::appending::append_byte;
 use crate::characters::append_shown;
 use crate::numerals::append_hexadecimal;
-use lxtr_search::query::label_at;
-use lxtr_search::query::label_count;
+use lxtr_bytes::labels::label_at;
+use lxtr_bytes::labels::label_count;
 
 fn append_text(line: &mut [u8], at: usize, labels: &[u8]) -> usize
     requires { ⌜ at ≤ length (now line) ⌝ }

@@ -19,7 +19,7 @@ use crate::appending::append_byte;
 use crate::keys::append_key;
 use crate::keys::append_labels;
 use crate::numerals::append_decimal;
-use lxtr_image::words::be32_at;
+use lxtr_bytes::numbers::be32_at;
 use lxtr_keys::key_length;
 use lxtr_keys::next_key;
 use lxtr_spec::MAX_LABELS;

@@ -12,7 +12,7 @@ use mir.Val.{Fits}
 use mir.Syntax.{w64}
 use lib.ListN.{length, take, drop, getD, length-drop}
 use lib.Seq.{drop-drop, drop-cons, take-all}
-use Rattle.lxtr_spec.specs.Words.{beBytes, beWords}
+use Rattle.lxtr_spec.specs.Numbers.{beBytes, beWords}
 use Rattle.lxtr_laws.specs.ByteOrders.{big, words-size}
 use Rattle.lxtr_laws.specs.Overlays.{over, over-length, WordsIn, words-start, words-next}
 use Rattle.lxtr_command_spec.specs.declared.Decoded.{Decoded}

@@ -8,7 +8,7 @@ use mathlib.Core.Bool.{Bool, true, false, _&&_, not, cond}
 use borrow.Author.Tests.{lt-ltb, le-ltb, not-true, not-false}
 use lib.ListN.{length, drop, List·getD-eq-default}
 use lib.Dec.{ltb, eqb, leb·suc-suc}
-use Rattle.lxtr_spec.specs.Words.{byteAt}
+use Rattle.lxtr_spec.specs.Numbers.{byteAt}
 use Rattle.lxtr_spec.specs.Labels.{isScalar}
 use Rattle.lxtr_command_spec.specs.Utf8.{tailByte, utf8, frontNumber, beginsWith, beginsRight}
 

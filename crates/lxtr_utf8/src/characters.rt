@@ -1,10 +1,10 @@
 // The character that a text begins with: its number from the bits, then whether these are the very bytes of that number.
 ghost use mathlib.Core.Path.{_≡_};
 ghost use lib.ListN.{length};
-ghost use Rattle.lxtr_spec.specs.Words.{byteAt};
+ghost use Rattle.lxtr_spec.specs.Numbers.{byteAt};
 ghost use Rattle.lxtr_command_spec.specs.Utf8.{tailByte, utf8, frontNumber, beginsWith};
 ghost use Rattle.lxtr_utf8.specs.Fronts.{byteIs, FrontOf};
-use lxtr_image::labels::is_scalar;
+use lxtr_bytes::labels::is_scalar;
 
 // A number, and how many bytes it has at the front of a text: 0 where the text does not begin with a character.
 pub struct Character {

@@ -5,15 +5,15 @@ mod characters; // the character that a text begins with
 ghost use mathlib.Core.Path.{_≡_};
 ghost use Prim.Native.Nat.{_*_, _≤_};
 ghost use lib.ListN.{length};
-ghost use Rattle.lxtr_spec.specs.Words.{beWords};
+ghost use Rattle.lxtr_spec.specs.Numbers.{beWords};
 ghost use Rattle.lxtr_laws.specs.Overlays.{over};
 ghost use Rattle.lxtr_command_spec.specs.Utf8.{countOf, decodingOf};
 ghost use Rattle.lxtr_utf8.specs.Decoding.{labelsIn, IsText};
 use crate::characters::first_character;
+use lxtr_bytes::numbers::put_be32;
 use lxtr_command_spec::Decoded;
 use lxtr_command_spec::NO_ROOM;
 use lxtr_command_spec::NOT_UTF8;
-use lxtr_image::words::put_be32;
 
 // How many labels the text has, or that it is not UTF-8.
 pub fn count_labels(text: &[u8]) -> Decoded

@@ -8,7 +8,7 @@ use mathlib.Core.Bool.{true}
 use native.Mathlib.Omega.{arith}
 use lib.ListN.{getD, length, length-append}
 use lib.Seq.{ext-getD, getD-append-seam}
-use Rattle.lxtr_spec.specs.Words.{beBytes, beWords, be32}
+use Rattle.lxtr_spec.specs.Numbers.{beBytes, beWords, be32}
 use Rattle.lxtr_spec.specs.Labels.{isScalar, maxLabels, Pair}
 use Rattle.lxtr_spec.specs.KeyLists.{maxKeys, listVersion, keyCount, keyLength, keyLabel, nextKey, keyAt, keysFrom, pairsOf, noScalarAt, notAbove, keyRefusal, keysRefusal, listRefusal}
 use Rattle.lxtr_spec.specs.Samples.{keyRecords, keyList}

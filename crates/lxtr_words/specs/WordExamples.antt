@@ -3,7 +3,7 @@ use Prim.Native.Nat.{ℕ, _+_, _-_}
 use mathlib.Core.Path.{_≡_, refl}
 use mathlib.Core.List.{List, [], _∷_, _++_}
 use lib.ListN.{length, replicate}
-use Rattle.lxtr_spec.specs.Words.{beBytes, beWords}
+use Rattle.lxtr_spec.specs.Numbers.{beBytes, beWords}
 use Rattle.lxtr_spec.specs.Labels.{isScalar, maxLabels, comesBefore}
 use Rattle.lxtr_spec.specs.Samples.{keyRecords, keyList}
 use Rattle.lxtr_command_spec.specs.Utf8.{utf8, frontNumber, beginsWith, beginsRight, optionCons, labelsWithin, labelsOfText}

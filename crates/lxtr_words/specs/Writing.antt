@@ -8,7 +8,7 @@ use native.Mathlib.Omega.{arith}
 use borrow.Author.Tests.{le-ltb}
 use lib.ListN.{getD, length, take, drop, set, length-append, length-drop, drop-of-length-le}
 use lib.Seq.{drop-cons, drop-drop, take-all}
-use Rattle.lxtr_spec.specs.Words.{beBytes, beWords}
+use Rattle.lxtr_spec.specs.Numbers.{beBytes, beWords}
 use Rattle.lxtr_spec.specs.Labels.{maxLabels}
 use Rattle.lxtr_spec.specs.Samples.{keyRecords, keyList}
 use Rattle.lxtr_laws.specs.ByteOrders.{big, words-size}

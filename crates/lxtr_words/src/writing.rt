@@ -4,19 +4,17 @@ ghost use mathlib.Core.Path.{_≡_};
 ghost use mathlib.Core.List.{_∷_};
 ghost use Prim.Native.Nat.{_+_, _*_, _≤_};
 ghost use lib.ListN.{length};
-ghost use Rattle.lxtr_spec.specs.Words.{beBytes, beWords};
+ghost use Rattle.lxtr_spec.specs.Numbers.{beWords};
 ghost use Rattle.lxtr_spec.specs.Labels.{maxLabels};
 ghost use Rattle.lxtr_spec.specs.KeyLists.{maxKeys};
 ghost use Rattle.lxtr_spec.specs.Samples.{keyRecords, keyList};
 ghost use Rattle.lxtr_laws.specs.Overlays.{over};
 ghost use Rattle.lxtr_words.specs.Tables.{keyOf, keysOf, WordRight, Table};
 use crate::lines::word_at;
-use lxtr_image::words::put_be32;
+use lxtr_bytes::heads::HEAD_LENGTH;
+use lxtr_bytes::heads::put_head;
 use lxtr_utf8::count_labels;
 use lxtr_utf8::decode;
-
-// Where the first key goes.
-const KEYS_AT: usize = 5;
 
 // How many labels a word has.
 fn label_count(text: &[u8], start: usize) -> usize
@@ -32,22 +30,13 @@ pub fn list_length(text: &[u8], starts: &[usize]) -> usize
     requires { ⌜ length (now starts) ≤ maxKeys ⌝ }
     ensures { λ r. ⌜ r ≡ length (keyList (keysOf (now (text .entry)) (now (starts .entry)))) ⌝ }
 {
-    let mut total = KEYS_AT;
+    let mut total = HEAD_LENGTH;
     let mut i: usize = 0;
     while i < starts.len() {
         total += 1 + 4 * label_count(text, starts[i]);
         i += 1;
     }
     total
-}
-
-// Version 1 and a count.
-fn put_head(out: &mut [u8], count: u32)
-    requires { ⌜ 5 ≤ length (now out) ⌝ }
-    ensures { λ _. ⌜ now (out .exit) ≡ over (now (out .entry)) 0 (1 ∷ beBytes count) ⌝ }
-{
-    out[0] = 1;
-    put_be32(out, 1, count);
 }
 
 // The labels of a word, from a place on; answers how many they are.
@@ -78,7 +67,7 @@ fn put_keys(text: &[u8], starts: &[usize], out: &mut [u8])
     requires { ⌜ 5 + length (keyRecords (keysOf (now text) (now starts))) ≤ length (now out) ⌝ }
     ensures { λ _. ⌜ now (out .exit) ≡ over (now (out .entry)) 5 (keyRecords (keysOf (now (text .entry)) (now (starts .entry)))) ⌝ }
 {
-    let mut at = KEYS_AT;
+    let mut at = HEAD_LENGTH;
     let mut i: usize = 0;
     while i < starts.len() {
         at = put_key(text, starts[i], out, at);
@@ -93,6 +82,6 @@ pub fn put_list(text: &[u8], starts: &[usize], out: &mut [u8])
     requires { ⌜ length (keyList (keysOf (now text) (now starts))) ≤ length (now out) ⌝ }
     ensures { λ _. ⌜ now (out .exit) ≡ over (now (out .entry)) 0 (keyList (keysOf (now (text .entry)) (now (starts .entry)))) ⌝ }
 {
-    put_head(out, starts.len() as u32);
+    put_head(out, 0, starts.len() as u32);
     put_keys(text, starts, out);
 }

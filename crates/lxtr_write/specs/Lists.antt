@@ -11,7 +11,7 @@ use lib.ListN.{length, take, getD, length-append}
 use lib.Seq.{length-take-le, take-all}
 use lib.Dec.{eqb}
 use Rattle.lxtr_spec.specs.Ranges.{concatFrom}
-use Rattle.lxtr_spec.specs.Words.{leBytes, leWords}
+use Rattle.lxtr_spec.specs.Numbers.{leBytes, leWords}
 use Rattle.lxtr_spec.specs.Labels.{maxSlots}
 use Rattle.lxtr_spec.specs.Image.{topBit}
 use Rattle.lxtr_spec.specs.Placing.{baseAt}

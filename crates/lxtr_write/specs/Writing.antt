@@ -9,7 +9,7 @@ use mir.Syntax.{w64}
 use mir.Val.{Fits}
 use borrow.Author.Needs.{fits-under}
 use Rattle.lxtr_spec.specs.Ranges.{countBelow}
-use Rattle.lxtr_spec.specs.Words.{leBytes, beBytes, leWords, beWords}
+use Rattle.lxtr_spec.specs.Numbers.{leBytes, beBytes, leWords, beWords}
 use Rattle.lxtr_spec.specs.Labels.{maxListed}
 use Rattle.lxtr_spec.specs.Image.{magic, headerLength, nodesAt}
 use Rattle.lxtr_spec.specs.Placing.{isTakenFrom2}

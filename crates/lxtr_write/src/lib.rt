@@ -5,10 +5,9 @@ mod links; // which child comes after which
 mod lists; // the offsets and the children lists
 
 ghost use mathlib.Core.Path.{_≡_};
-ghost use mathlib.Core.List.{_∷_};
 ghost use Prim.Native.Nat.{_+_, _*_, _≤_, _<_};
 ghost use lib.ListN.{length, take, getD};
-ghost use Rattle.lxtr_spec.specs.Words.{beBytes, leWords, beWords};
+ghost use Rattle.lxtr_spec.specs.Numbers.{leWords, beWords};
 ghost use Rattle.lxtr_spec.specs.Image.{headerLength, magic, nodesAt};
 ghost use Rattle.lxtr_spec.specs.Builds.{headerBytes, mapBytes, imageIn, slotsUsed, slotsIn, withRoom};
 ghost use Rattle.lxtr_laws.specs.Overlays.{over};
@@ -19,9 +18,11 @@ ghost use Rattle.lxtr_write.specs.Answers.{Answers};
 use crate::counting::slots_used;
 use crate::counting::taken_count;
 use crate::lists::put_lists;
+use lxtr_bytes::heads::HEAD_LENGTH;
+use lxtr_bytes::heads::put_head;
+use lxtr_bytes::numbers::put_be32;
+use lxtr_bytes::numbers::put_le32;
 use lxtr_image::sections::HEADER_LENGTH;
-use lxtr_image::words::put_be32;
-use lxtr_image::words::put_le32;
 use lxtr_place::slots::slots_in;
 use lxtr_spec::Built;
 
@@ -64,15 +65,6 @@ fn put_nodes(out: &mut [u8], work: &[u32], slots: usize)
     }
 }
 
-// Version 1 and the count of a code map, from a place on.
-fn put_map_head(out: &mut [u8], at: usize, count: u32)
-    requires { ⌜ at + 5 ≤ length (now out) ⌝ }
-    ensures { λ _. ⌜ now (out .exit) ≡ over (now (out .entry)) at (1 ∷ beBytes count) ⌝ }
-{
-    out[at] = 1;
-    put_be32(out, at + 1, count);
-}
-
 // The label at place j of the code map.
 fn listed_label(labels: &[u32], order: &[u32], j: usize) -> u32
     requires { ⌜ MapOrder (now labels) (now order) ⌝ }
@@ -101,8 +93,8 @@ fn put_map(out: &mut [u8], at: usize, labels: &[u32], order: &[u32])
     requires { ⌜ at + 5 + 4 * length (now order) ≤ length (now out) ⌝ }
     ensures { λ _. ⌜ now (out .exit) ≡ over (now (out .entry)) at (mapBytes (picked (now (labels .entry)) (now (order .entry)))) ⌝ }
 {
-    put_map_head(out, at, order.len() as u32);
-    put_labels(out, at + 5, labels, order);
+    put_head(out, at, order.len() as u32);
+    put_labels(out, at + HEAD_LENGTH, labels, order);
 }
 
 // The image of so many slots of the work, with so many children.

@@ -5,7 +5,7 @@ ghost use mathlib.Core.Logic.{_≢_};
 ghost use Prim.Native.Nat.{_+_, _*_, _≤_, _<_};
 ghost use lib.ListN.{length};
 ghost use Rattle.lxtr_spec.specs.Ranges.{concatFrom};
-ghost use Rattle.lxtr_spec.specs.Words.{leWords};
+ghost use Rattle.lxtr_spec.specs.Numbers.{leWords};
 ghost use Rattle.lxtr_spec.specs.Builds.{childBy, childrenOf, childrenIn, offsetsFrom};
 ghost use Rattle.lxtr_laws.specs.Overlays.{over};
 ghost use Rattle.lxtr_write.specs.Counting.{Slots};
@@ -13,8 +13,8 @@ ghost use Rattle.lxtr_write.specs.Links.{Linked};
 ghost use Rattle.lxtr_write.specs.Lists.{Put};
 use crate::links::LINK_COUNT;
 use crate::links::link_all;
+use lxtr_bytes::numbers::put_le32;
 use lxtr_image::nodes::TOP_BIT;
-use lxtr_image::words::put_le32;
 use lxtr_spec::MAX_SLOTS;
 
 // Writes p's children by ascending code, which goes up to `last`, as the entries from `start` on. Answers the entry after them.

@@ -9,7 +9,7 @@ use mathlib.Core.Option.{some, none}
 use mathlib.Core.Bool.{true, true≢false}
 use lib.ListN.{getD, length, take}
 use lib.Seq.{ext-getD}
-use Rattle.lxtr_spec.specs.Words.{be32, beWords}
+use Rattle.lxtr_spec.specs.Numbers.{be32, beWords}
 use Rattle.lxtr_spec.specs.Labels.{labelsOf, comesBefore, Pair}
 use Rattle.lxtr_spec.specs.Refusals.{unlessRefused, endCount, checkOf}
 use Rattle.lxtr_spec.specs.Searches.{searchRefusal, exactValue, exactOf}

@@ -6,7 +6,7 @@ use mathlib.Core.Logic.{_⊎_, inl, inr}
 use mathlib.Core.List.{List, [], _∷_, _++_, append-assoc, append-nil}
 use lib.ListN.{getD, length, length-append, List·getD-append}
 use lib.Seq.{getD-append-add}
-use Rattle.lxtr_spec.specs.Words.{byteAt, le32, be32, leBytes, beBytes, leWords, beWords}
+use Rattle.lxtr_spec.specs.Numbers.{byteAt, le32, be32, leBytes, beBytes, leWords, beWords}
 use Rattle.lxtr_spec.specs.Image.{magic, version, slotCount, childCount, mapLength, mapAt, imageLength, baseWord, checkWord, offset, child, mapVersion, labelCount, labelAt}
 use Rattle.lxtr_spec.specs.Builds.{headerBytes, mapBytes, imageBytes}
 use Rattle.lxtr_laws.specs.ByteOrders.{little, big, words-size}

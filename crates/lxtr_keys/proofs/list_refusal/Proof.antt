@@ -9,7 +9,7 @@ list-refusal-spec =
     tie.close
     (tie.spec
     (λ c. search list-short)
-    (λ c. search needs)
+    (λ c κs. search needs)
     (λ c. search list-version)
     (λ c κs. search needs)
     (λ c. search list-many)

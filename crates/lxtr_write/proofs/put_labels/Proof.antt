@@ -3,7 +3,7 @@ use borrow.Author.Needs.{needs}
 use Prim.Native.Nat.{_-_, _≤_}
 use mathlib.Core.Path.{_≡_}
 use lib.ListN.{length}
-use Rattle.lxtr_spec.specs.Words.{beWords}
+use Rattle.lxtr_spec.specs.Numbers.{beWords}
 use Rattle.lxtr_laws.specs.ByteOrders.{big}
 use Rattle.lxtr_laws.specs.Overlays.{WordsIn, words-start}
 use Rattle.lxtr_build_laws.specs.CodeTables.{picked}

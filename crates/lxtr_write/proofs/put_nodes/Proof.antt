@@ -3,7 +3,7 @@ use borrow.Author.Needs.{needs}
 use Prim.Native.Nat.{_*_, _-_, _≤_}
 use mathlib.Core.Path.{_≡_}
 use lib.ListN.{length}
-use Rattle.lxtr_spec.specs.Words.{leWords}
+use Rattle.lxtr_spec.specs.Numbers.{leWords}
 use Rattle.lxtr_spec.specs.Image.{nodesAt}
 use Rattle.lxtr_laws.specs.ByteOrders.{little}
 use Rattle.lxtr_laws.specs.Overlays.{WordsIn, words-start}

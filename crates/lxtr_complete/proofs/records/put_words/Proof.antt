@@ -4,7 +4,7 @@ use Prim.Native.Nat.{_-_, _≤_}
 use mathlib.Core.Path.{_≡_}
 use native.Mathlib.Omega.{arith}
 use lib.ListN.{length}
-use Rattle.lxtr_spec.specs.Words.{beWords}
+use Rattle.lxtr_spec.specs.Numbers.{beWords}
 use Rattle.lxtr_spec.specs.Labels.{maxLabels}
 use Rattle.lxtr_laws.specs.ByteOrders.{big}
 use Rattle.lxtr_laws.specs.Overlays.{WordsIn, words-start, words-next, words-end}

@@ -10,6 +10,5 @@ label-count-spec =
     tie.close
     (tie.spec
     (λ c κs. search needs)
-    (λ c. search needs)
     (λ c κs. search needs)
-    (λ c. rw (c .be32-at .ensures, c .before .map-at .ensures)))
+    (λ c. rw (c .count-at .ensures, c .before .map-at .ensures)))

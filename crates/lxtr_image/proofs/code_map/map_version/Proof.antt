@@ -10,5 +10,5 @@ map-version-spec =
     tie.close
     (tie.spec
     (λ c κs. search needs)
-    (λ c. search needs)
-    (λ c. rw (c .before .map-at .ensures)))
+    (λ c κs. search needs)
+    (λ c. rw (c .version-at .ensures, c .before .map-at .ensures)))

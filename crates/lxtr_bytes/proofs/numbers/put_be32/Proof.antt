@@ -1,0 +1,27 @@
+-- Four stores, one behind the other, lay the four bytes over the room.
+use borrow.Author.Needs.{needs}
+use native.Mathlib.Omega.{arith}
+use lib.ListN.{length-set}
+use Rattle.lxtr_spec.specs.Numbers.{beBytes}
+use Rattle.lxtr_laws.specs.Overlays.{four-put}
+use Rattle.lxtr_bytes.proofs.numbers.put_be32.Statement.{statement}
+use Rattle.lxtr_bytes.proofs.numbers.put_be32.Tie as tie
+
+pub put-be32-spec : {M : Type 1} → statement M
+unfolding beBytes
+put-be32-spec =
+    tie.close
+    (tie.spec
+    (λ c. search needs)
+    (λ c. search needs)
+    (λ c. search needs)
+    (λ c. search needs)
+    (λ c. simp length-set (omega arith))
+    (λ c. search needs)
+    (λ c. search needs)
+    (λ c. simp length-set (omega arith))
+    (λ c. search needs)
+    (λ c. search needs)
+    (λ c. simp length-set (omega arith))
+    (λ c. search needs)
+    (λ c. four-put _ _ _ _ _ _ (c .pre)))

@@ -1,0 +1,2 @@
+-- What the code computes of four bytes.
+pub mod Swapping
