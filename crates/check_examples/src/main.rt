@@ -2,7 +2,7 @@
 // and 65 labels, and prints the answers, with the place of the fault.
 use libc::STDOUT_FILENO;
 use lxtr_check::check;
-use lxtr_check::fault;
+use lxtr_fault::fault;
 use lxtr_spec::Fault;
 use sample_images::front;
 use sample_images::one_key;

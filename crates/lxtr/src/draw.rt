@@ -130,7 +130,7 @@ fn draw_refusal(refusal: u8, fault: Fault) {
 // The last word stands behind #, which Graphviz passes over.
 pub fn draw(image: &[u8]) {
     let refusal = lxtr_check::check(image).refusal;
-    let fault = lxtr_check::fault(image);
+    let fault = lxtr_fault::fault(image);
     print(b"digraph lxtr {\n  rankdir=LR;\n  node [shape=box];\n");
     if header_refusal(image) == 0 {
         draw_slots(image, wrong_slot(fault));

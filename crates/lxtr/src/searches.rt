@@ -27,7 +27,7 @@ pub fn check(image: &[u8]) {
         end(b"accepted");
         return;
     }
-    refuse_at(verdict.refusal, lxtr_check::fault(image));
+    refuse_at(verdict.refusal, lxtr_fault::fault(image));
 }
 
 // A word as text and as labels, where it has no more than a key.
@@ -199,7 +199,7 @@ pub fn complete(image: &[u8], query: &[u8]) {
 fn list_in(image: &[u8], query: &[u8], listing: &mut [u8; LISTING_ROOM]) {
     let answer = lxtr_complete::complete(image, query, listing);
     if answer.refusal != 0 {
-        refuse_at(answer.refusal, lxtr_check::fault(image));
+        refuse_at(answer.refusal, lxtr_fault::fault(image));
         return;
     }
     say(b"pairs %\n", &[answer.count]);

@@ -1,30 +1,18 @@
-// Checks LXTR images: whether any bytes are an image, and of how many pairs, or where the fault lies. One module for each of rules
-// 9 to 12, then the check and the place of a fault, which any caller may use. `body_refusal` is for the crates above.
-mod labels; // 9: the listed labels
-mod slots; // 10: the slots
-mod lists; // 11: the children lists
-mod reach; // 12: the way from each slot to slot 1
-mod list_faults; // 11: where a list is wrong
-
+// Checks LXTR images: whether any bytes are an image, and of how many pairs. Each of rules 9 to 12 is a crate of its own. Any caller
+// may use `check` and `image_refusal`; `body_refusal` is for the crates above.
 ghost use mathlib.Core.Path.{_≡_};
 ghost use Prim.Native.Nat.{_<_};
 ghost use Rattle.lxtr_spec.specs.Image.{slotCount};
 ghost use Rattle.lxtr_spec.specs.Refusals.{bodyRefusal, imageRefusal, isEnd, endCount, checkOf};
-ghost use Rattle.lxtr_spec.specs.FaultPlaces.{faultOf};
 ghost use Rattle.lxtr_laws.specs.Passed.{Whole, Passed};
-use crate::labels::first_wrong_label;
-use crate::labels::labels_wrong;
-use crate::list_faults::list_fault;
-use crate::lists::lists_wrong;
-use crate::reach::first_unreachable;
-use crate::reach::some_unreachable;
-use crate::slots::first_wrong_slot;
-use crate::slots::is_used_from_2;
-use crate::slots::slots_wrong;
 use lxtr_header::header_refusal;
 use lxtr_image::nodes::is_leaf;
 use lxtr_image::sections::slot_count;
-use lxtr_spec::Fault;
+use lxtr_labels::labels_wrong;
+use lxtr_lists::lists_wrong;
+use lxtr_reach::some_unreachable;
+use lxtr_slots::is_used_from_2;
+use lxtr_slots::slots_wrong;
 use lxtr_spec::Verdict;
 
 // The first of refusals 9 to 12 that holds, or 0, for bytes that passed 1 to 8.
@@ -48,7 +36,7 @@ pub fn body_refusal(image: &[u8]) -> u8
 }
 
 // The first of refusals 1 to 12 that holds, or 0.
-fn image_refusal(image: &[u8]) -> u8
+pub fn image_refusal(image: &[u8]) -> u8
     ensures { λ r. ⌜ r ≡ imageRefusal (now (image .entry)) ⌝ }
 {
     let refusal = header_refusal(image);
@@ -94,24 +82,4 @@ pub fn check(image: &[u8]) -> Verdict
         refusal: 0,
         pairs: end_count(image),
     }
-}
-
-// Where the fault lies, for refusals 9 to 12: the first place at which the rule does not hold.
-pub fn fault(image: &[u8]) -> Fault
-    ensures { λ r. ⌜ r ≡ faultOf (now (image .entry)) ⌝ }
-{
-    let refusal = image_refusal(image);
-    if refusal < 9 {
-        return Fault::Nowhere;
-    }
-    if refusal == 9 {
-        return Fault::Label(first_wrong_label(image));
-    }
-    if refusal == 10 {
-        return Fault::Slot(first_wrong_slot(image));
-    }
-    if refusal == 11 {
-        return list_fault(image);
-    }
-    Fault::Unreachable(first_unreachable(image))
 }

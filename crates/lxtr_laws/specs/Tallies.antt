@@ -1,11 +1,16 @@
 -- A loop that counts the numbers below a bound m that pass a test f. So far it has come to i: n of those below i pass.
-use Prim.Native.Nat.{ℕ, _+_, _≤_, _<_}
+use Prim.Native.Nat.{ℕ, _+_, _^_, _≤_, _<_}
 use mathlib.Core.Path.{_≡_, refl}
+use mathlib.Core.List.{List}
 use mathlib.Core.Bool.{Bool, true, false, cond}
 use native.Mathlib.Numerals.{add-one}
 use native.Mathlib.Omega.{arith}
-use mir.Val.{boolByte}
+use mir.Syntax.{w32}
+use mir.Val.{boolByte, Fits}
+use borrow.Author.Needs.{fits-under}
 use Rattle.lxtr_spec.specs.Ranges.{countBelow}
+use Rattle.lxtr_spec.specs.Image.{slotCount}
+use Rattle.lxtr_laws.specs.Passed.{Whole}
 
 -- a test's outcome as the number that the code makes of it
 pub one-at-most : (r : Bool) → boolByte r ≤ 1
@@ -38,3 +43,7 @@ module _ (f : ℕ → Bool) (m : ℕ) where
 
     pub count-end : (bound : ℕ) → m ≡ bound → m ≤ i → n ≡ countBelow bound f
     count-end bound same h = let e : i ≡ bound = omega (arith, s .to) in rw e at (s .count)
+
+-- a count of slots fits into 32 bits
+pub count-fits : (f : ℕ → Bool) (m i n : ℕ) (b : List ℕ) (r : Bool) → CountSoFar f i m n → Whole b → m ≡ slotCount b → i < m → Fits w32 (n + boolByte r)
+count-fits f m i n b r s ok e h = fits-under w32 (n + boolByte r) (2 ^ 32) (omega (arith, count-small f m i n s r h, ok .sized .slots-to)) tt

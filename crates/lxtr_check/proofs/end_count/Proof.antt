@@ -5,7 +5,7 @@ use Prim.Native.Nat.{_-_}
 use Rattle.lxtr_spec.specs.Image.{slotCount}
 use Rattle.lxtr_spec.specs.Refusals.{isEnd, endCount}
 use Rattle.lxtr_laws.specs.Tallies.{CountSoFar, count-start, count-next, count-end}
-use Rattle.lxtr_check.specs.Checks.{count-fits}
+use Rattle.lxtr_laws.specs.Tallies.{count-fits}
 use Rattle.lxtr_check.proofs.end_count.Statement.{statement}
 use Rattle.lxtr_check.proofs.end_count.Tie as tie
 

@@ -1,0 +1,2 @@
+-- The returns of the code that finds a fault.
+pub mod FaultTests

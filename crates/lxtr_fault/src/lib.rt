@@ -1,0 +1,31 @@
+// Where the fault of an image lies that refusals 9 to 12 refuse. Any caller may use `fault`.
+mod list_faults; // 11: where a list is wrong
+
+ghost use mathlib.Core.Path.{_≡_};
+ghost use Rattle.lxtr_spec.specs.FaultPlaces.{faultOf};
+use crate::list_faults::list_fault;
+use lxtr_check::image_refusal;
+use lxtr_labels::first_wrong_label;
+use lxtr_reach::first_unreachable;
+use lxtr_slots::first_wrong_slot;
+use lxtr_spec::Fault;
+
+// Where the fault lies, for refusals 9 to 12: the first place at which the rule does not hold.
+pub fn fault(image: &[u8]) -> Fault
+    ensures { λ r. ⌜ r ≡ faultOf (now (image .entry)) ⌝ }
+{
+    let refusal = image_refusal(image);
+    if refusal < 9 {
+        return Fault::Nowhere;
+    }
+    if refusal == 9 {
+        return Fault::Label(first_wrong_label(image));
+    }
+    if refusal == 10 {
+        return Fault::Slot(first_wrong_slot(image));
+    }
+    if refusal == 11 {
+        return list_fault(image);
+    }
+    Fault::Unreachable(first_unreachable(image))
+}

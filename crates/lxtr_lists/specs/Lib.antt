@@ -1,0 +1,2 @@
+-- The tests of rule 11.
+pub mod ListTests

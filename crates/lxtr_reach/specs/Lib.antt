@@ -1,0 +1,2 @@
+-- The ways of rule 12.
+pub mod WaysUp

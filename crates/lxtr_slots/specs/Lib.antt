@@ -1,0 +1,2 @@
+-- The tests of rule 10.
+pub mod SlotTests
