@@ -15,6 +15,9 @@ use lxtr_keys::list_refusal;
 use lxtr_place::place_all;
 use lxtr_spec::Built;
 use lxtr_spec::MAX_LISTED;
+use lxtr_spec::refusals::TOO_FEW_SLOTS;
+use lxtr_spec::refusals::TOO_MANY_LABELS;
+use lxtr_spec::refusals::WORK_TOO_SMALL;
 use lxtr_write::put_image;
 
 // Sets every word to 0.
@@ -44,7 +47,7 @@ fn build_mapped(
 {
     if !place_all(keys, labels, codes, order, work) {
         return Built {
-            refusal: 22,
+            refusal: TOO_FEW_SLOTS,
             length: 0,
         };
     }
@@ -63,7 +66,7 @@ fn build_keys(keys: &[u8], work: &mut [u32], out: &mut [u8]) -> Built
     let count = code_map(keys, &mut labels, &mut codes, &mut order);
     if MAX_LISTED < count {
         return Built {
-            refusal: 20,
+            refusal: TOO_MANY_LABELS,
             length: 0,
         };
     }
@@ -96,7 +99,7 @@ pub fn build(keys: &[u8], work: &mut [u32], out: &mut [u8]) -> Built
 {
     if work.len() < 4 {
         return Built {
-            refusal: 21,
+            refusal: WORK_TOO_SMALL,
             length: 0,
         };
     }

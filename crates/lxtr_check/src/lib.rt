@@ -14,6 +14,10 @@ use lxtr_reach::some_unreachable;
 use lxtr_slots::is_used_from_2;
 use lxtr_slots::slots_wrong;
 use lxtr_spec::Verdict;
+use lxtr_spec::refusals::UNREACHABLE;
+use lxtr_spec::refusals::WRONG_LABELS;
+use lxtr_spec::refusals::WRONG_LISTS;
+use lxtr_spec::refusals::WRONG_SLOTS;
 
 // The first of refusals 9 to 12 that holds, or 0, for bytes that passed 1 to 8.
 pub fn body_refusal(image: &[u8]) -> u8
@@ -21,16 +25,16 @@ pub fn body_refusal(image: &[u8]) -> u8
     ensures { λ r. ⌜ r ≡ bodyRefusal (now (image .entry)) ⌝ }
 {
     if labels_wrong(image) {
-        return 9;
+        return WRONG_LABELS;
     }
     if slots_wrong(image) {
-        return 10;
+        return WRONG_SLOTS;
     }
     if lists_wrong(image) {
-        return 11;
+        return WRONG_LISTS;
     }
     if some_unreachable(image) {
-        return 12;
+        return UNREACHABLE;
     }
     0
 }

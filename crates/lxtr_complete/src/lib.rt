@@ -21,6 +21,7 @@ use lxtr_check::body_refusal;
 use lxtr_spec::Completion;
 use lxtr_spec::Found;
 use lxtr_spec::LENGTH_COUNT;
+use lxtr_spec::refusals::ROOM_TOO_SMALL;
 use lxtr_walk::search_refusal;
 use lxtr_walk::walk_within;
 
@@ -112,7 +113,7 @@ fn completion_refusal(image: &[u8], query: &[u8], room: &[u8]) -> u8
         return body;
     }
     if room.len() < HEAD_LENGTH {
-        return 14;
+        return ROOM_TOO_SMALL;
     }
     0
 }

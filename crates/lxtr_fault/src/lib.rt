@@ -9,22 +9,25 @@ use lxtr_labels::first_wrong_label;
 use lxtr_reach::first_unreachable;
 use lxtr_slots::first_wrong_slot;
 use lxtr_spec::Fault;
+use lxtr_spec::refusals::WRONG_LABELS;
+use lxtr_spec::refusals::WRONG_LISTS;
+use lxtr_spec::refusals::WRONG_SLOTS;
 
 // Where the fault lies, for refusals 9 to 12: the first place at which the rule does not hold.
 pub fn fault(image: &[u8]) -> Fault
     ensures { λ r. ⌜ r ≡ faultOf (now (image .entry)) ⌝ }
 {
     let refusal = image_refusal(image);
-    if refusal < 9 {
+    if refusal < WRONG_LABELS {
         return Fault::Nowhere;
     }
-    if refusal == 9 {
+    if refusal == WRONG_LABELS {
         return Fault::Label(first_wrong_label(image));
     }
-    if refusal == 10 {
+    if refusal == WRONG_SLOTS {
         return Fault::Slot(first_wrong_slot(image));
     }
-    if refusal == 11 {
+    if refusal == WRONG_LISTS {
         return list_fault(image);
     }
     Fault::Unreachable(first_unreachable(image))

@@ -20,6 +20,14 @@ use lxtr_image::sections::slot_count;
 use lxtr_spec::MAX_LISTED;
 use lxtr_spec::MAX_SLOTS;
 use lxtr_spec::MIN_SLOTS;
+use lxtr_spec::refusals::IMAGE_TOO_SHORT;
+use lxtr_spec::refusals::NOT_LXTR;
+use lxtr_spec::refusals::RESERVED_SET;
+use lxtr_spec::refusals::WRONG_IMAGE_LENGTH;
+use lxtr_spec::refusals::WRONG_MAP;
+use lxtr_spec::refusals::WRONG_OFFSET_ENDS;
+use lxtr_spec::refusals::WRONG_SIZES;
+use lxtr_spec::refusals::WRONG_VERSION;
 
 // Whether four bytes differ from `LXTR`. They are compared as one number.
 fn four_differ(a: u8, b: u8, c: u8, d: u8) -> bool
@@ -103,13 +111,13 @@ fn parts_refusal(image: &[u8]) -> u8
     ensures { λ r. ⌜ r ≡ refuseIf (lengthWrong (now (image .entry))) 6 (refuseIf (mapWrong (now (image .entry))) 7 (refuseIf (offsetEndsWrong (now (image .entry))) 8 0)) ⌝ }
 {
     if length_wrong(image) {
-        return 6;
+        return WRONG_IMAGE_LENGTH;
     }
     if map_wrong(image) {
-        return 7;
+        return WRONG_MAP;
     }
     if offset_ends_wrong(image) {
-        return 8;
+        return WRONG_OFFSET_ENDS;
     }
     0
 }
@@ -119,19 +127,19 @@ pub fn header_refusal(image: &[u8]) -> u8
     ensures { λ r. ⌜ r ≡ headerRefusal (now (image .entry)) ⌝ }
 {
     if image.len() < HEADER_LENGTH {
-        return 1;
+        return IMAGE_TOO_SHORT;
     }
     if magic_differs(image) {
-        return 2;
+        return NOT_LXTR;
     }
     if version_wrong(image) {
-        return 3;
+        return WRONG_VERSION;
     }
     if reserved_set(image) {
-        return 4;
+        return RESERVED_SET;
     }
     if sizes_wrong(image) {
-        return 5;
+        return WRONG_SIZES;
     }
     parts_refusal(image)
 }

@@ -13,6 +13,8 @@ use lxtr_bytes::heads::count_at;
 use lxtr_bytes::heads::version_at;
 use lxtr_bytes::numbers::be32_at;
 use lxtr_spec::MAX_KEYS;
+use lxtr_spec::refusals::LIST_MALFORMED;
+use lxtr_spec::refusals::TOO_MANY_KEYS;
 
 // Where the first key starts.
 pub const KEYS_AT: usize = HEAD_LENGTH;
@@ -54,14 +56,14 @@ pub fn list_refusal(keys: &[u8]) -> u8
     ensures { λ r. ⌜ r ≡ listRefusal (now (keys .entry)) ⌝ }
 {
     if keys.len() < KEYS_AT {
-        return 15;
+        return LIST_MALFORMED;
     }
     if version_at(keys, 0) != VERSION {
-        return 15;
+        return LIST_MALFORMED;
     }
     let count = key_count(keys);
     if MAX_KEYS < count {
-        return 16;
+        return TOO_MANY_KEYS;
     }
     keys_refusal(keys, count)
 }

@@ -14,6 +14,10 @@ use crate::key_length;
 use crate::next_key;
 use lxtr_bytes::labels::is_scalar;
 use lxtr_spec::MAX_LABELS;
+use lxtr_spec::refusals::KEY_TOO_LONG;
+use lxtr_spec::refusals::KEYS_NOT_ASCENDING;
+use lxtr_spec::refusals::LIST_MALFORMED;
+use lxtr_spec::refusals::NOT_SCALAR;
 
 // Label j of the key at a place is no scalar value.
 fn no_scalar_at(keys: &[u8], at: usize, j: usize) -> bool
@@ -81,19 +85,19 @@ fn key_refusal(keys: &[u8], i: usize, before: usize, at: usize) -> u8
     ensures { λ r. ⌜ r ≡ keyRefusal (now (keys .entry)) i before at ⌝ }
 {
     if keys.len() <= at {
-        return 15;
+        return LIST_MALFORMED;
     }
     if MAX_LABELS < key_length(keys, at) {
-        return 17;
+        return KEY_TOO_LONG;
     }
     if keys.len() < next_key(keys, at) {
-        return 15;
+        return LIST_MALFORMED;
     }
     if some_no_scalar(keys, at) {
-        return 18;
+        return NOT_SCALAR;
     }
     if not_above(keys, i, before, at) {
-        return 19;
+        return KEYS_NOT_ASCENDING;
     }
     0
 }
@@ -116,7 +120,7 @@ pub fn keys_refusal(keys: &[u8], count: usize) -> u8
         i += 1;
     }
     if at < keys.len() {
-        return 15;
+        return LIST_MALFORMED;
     }
     0
 }

@@ -1,4 +1,5 @@
-// The answers and the limits of LXTR tools. What they mean is said in specs/, which holds document 01 as definitions.
+// The answers, the limits and the refusals of LXTR tools. What they mean is said in specs/, which holds document 01 as definitions.
+pub mod refusals; // the number of each refusal
 
 // A key has at most so many labels; from this limit follows the number of possible lengths.
 pub const MAX_LABELS: usize = 64;
@@ -23,7 +24,7 @@ pub enum Found {
     Nothing,
 }
 
-// In each answer below `refusal` is document 01's number, or 0 for none.
+// In each answer below `refusal` is a number of `refusals`, or 0 for none.
 
 // The check: how many pairs the image's set has.
 pub struct Verdict {

@@ -20,6 +20,7 @@ use lxtr_image::nodes::is_leaf;
 use lxtr_image::nodes::value_number;
 use lxtr_spec::Found;
 use lxtr_spec::MAX_LABELS;
+use lxtr_spec::refusals::WRONG_QUERY_LENGTH;
 
 // 1 to 8 of the image, then 13 of the query, or 0.
 pub fn search_refusal(image: &[u8], query: &[u8]) -> u8
@@ -30,7 +31,7 @@ pub fn search_refusal(image: &[u8], query: &[u8]) -> u8
         return refusal;
     }
     if query.len() % 4 != 0 {
-        return 13;
+        return WRONG_QUERY_LENGTH;
     }
     0
 }

@@ -25,6 +25,7 @@ use lxtr_bytes::numbers::put_le32;
 use lxtr_image::sections::HEADER_LENGTH;
 use lxtr_place::slots::slots_in;
 use lxtr_spec::Built;
+use lxtr_spec::refusals::OUT_TOO_SMALL;
 
 // The four bytes `LXTR`.
 fn put_magic(out: &mut [u8])
@@ -139,7 +140,7 @@ fn put_fitting(
     let size = HEADER_LENGTH + 8 * slots + 4 * (slots + 1) + 4 * children + map_length;
     if out.len() < size {
         return Built {
-            refusal: 23,
+            refusal: OUT_TOO_SMALL,
             length: 0,
         };
     }
