@@ -3,7 +3,7 @@ use Prim.Native.Nat.{ℕ, _*_, _/_, _≤_}
 use native.Mathlib.Omega.{arith}
 use mathlib.Core.Path.{_≡_, ap, _∙_}
 use mathlib.Core.List.{List}
-use mathlib.Core.Bool.{Bool, true, false}
+use mathlib.Core.Bool.{false}
 use lib.ListN.{length}
 use lib.Seq.{length-take-le}
 use Rattle.lxtr_spec.specs.Labels.{maxLabels}
@@ -16,8 +16,6 @@ use Rattle.lxtr_spec.specs.Answers.{found, exactMeans, probeMeans}
 use Rattle.lxtr_spec.specs.HostNumbers.{hostNumber, valueNumbered, faultNumbered, checkNumber, faultNumber, exactNumber, probeNumber, longestNumber, HostPrefixes, alternately, atFront, prefixesNumber, placesAfter, hostPrefixesOf, HostCompletion, completionNumber, hostCompletionOf, HostBuild, builtNumber, hostBuildOf}
 use Rattle.lxtr_laws.specs.Refusing.{stands}
 use Rattle.lxtr_search.specs.Kept.{longest-bytes, longest-limit}
-use Rattle.lxtr_spec.specs.declared.Found.{Found}
-use Rattle.lxtr_spec.specs.declared.Found.the-variants.{Is, Nothing}
 use Rattle.lxtr_spec.specs.declared.Verdict.{Verdict}
 use Rattle.lxtr_spec.specs.declared.Fault.{Fault}
 use Rattle.lxtr_spec.specs.declared.Exact.{Exact}
@@ -25,20 +23,6 @@ use Rattle.lxtr_spec.specs.declared.Prefixes.{Prefixes}
 use Rattle.lxtr_spec.specs.declared.Probe.{Probe}
 use Rattle.lxtr_spec.specs.declared.Completion.{Completion}
 use Rattle.lxtr_spec.specs.declared.Built.{Built}
-
--- of a value or none
-module _ (k : ℕ) (more : Bool) (f : Found) (n : ℕ) where
-  pub value-number : (v : ℕ) → f ≡ Is v → n ≡ hostNumber k more true v → n ≡ valueNumbered k more (found f)
-  unfolding valueNumbered
-  value-number v h e = rw h e
-
-  pub none-number : f ≡ Nothing → n ≡ hostNumber k more false 0 → n ≡ valueNumbered k more (found f)
-  unfolding valueNumbered
-  none-number h e = rw h e
-
--- of a fault, by its case
-pub fault-case : (f g : Fault) (n : ℕ) → f ≡ g → n ≡ faultNumbered g → n ≡ faultNumbered f
-fault-case f g n e h = rw e h
 
 module _ (b : List ℕ) where
   pub fault-number : (f : Fault) (n : ℕ) → f ≡ faultOf b → n ≡ faultNumbered f → n ≡ faultNumber b

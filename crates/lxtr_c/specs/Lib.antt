@@ -1,4 +1,2 @@
--- Laws of the C entries: the number that each answers, and the words of prefixes.
-pub mod Numbers
-pub mod Places
+-- Laws of the C entries: the number that each answers.
 pub mod Entries

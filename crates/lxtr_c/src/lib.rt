@@ -1,18 +1,15 @@
 // The entries for programs in C and Rust: each operation under a plain name, over slices passed as pointer and length, answering
 // one 64-bit number. `include/lxtr.h` declares them and says what each number means.
-mod numbers; // the number that an operation answers
-mod places; // the matches of prefixes as words
-
 ghost use mathlib.Core.Path.{_≡_};
 ghost use Rattle.lxtr_spec.specs.HostNumbers.{checkNumber, faultNumber, exactNumber, probeNumber, longestNumber, hostPrefixesOf, hostCompletionOf, hostBuildOf};
-use crate::numbers::fault_numbered;
-use crate::numbers::host_number;
-use crate::numbers::value_numbered;
-use crate::places::put_places;
 use lxtr_build::build;
 use lxtr_check::check;
 use lxtr_complete::complete;
 use lxtr_fault::fault;
+use lxtr_host::numbers::fault_numbered;
+use lxtr_host::numbers::host_number;
+use lxtr_host::numbers::value_numbered;
+use lxtr_host::places::put_places;
 use lxtr_search::exact;
 use lxtr_search::longest;
 use lxtr_search::matches::put_prefixes;

@@ -4,6 +4,10 @@ ghost use Rattle.lxtr_spec.specs.HostNumbers.{hostNumber, valueNumbered, placeN
 ghost use Rattle.lxtr_spec.specs.Answers.{found};
 use lxtr_spec::Fault;
 use lxtr_spec::Found;
+use lxtr_spec::refusals::UNREACHABLE;
+use lxtr_spec::refusals::WRONG_LABELS;
+use lxtr_spec::refusals::WRONG_LISTS;
+use lxtr_spec::refusals::WRONG_SLOTS;
 
 // What one refusal, the mark for more, the mark for a value, and one kind of fault add.
 const REFUSAL: u64 = 0x100_0000_0000;
@@ -44,13 +48,13 @@ pub fn fault_numbered(fault: Fault) -> u64
 {
     match fault {
         Fault::Nowhere => 0,
-        Fault::Label(i) => place_number(9, 0, i),
-        Fault::Slot(s) => place_number(10, 0, s),
-        Fault::Offset(p) => place_number(11, 1, p),
-        Fault::Entry(_, j) => place_number(11, 2, j),
-        Fault::Unlisted(s) => place_number(11, 3, s),
-        Fault::Childless(s) => place_number(11, 4, s),
-        Fault::RootBase => place_number(11, 5, 1),
-        Fault::Unreachable(s) => place_number(12, 0, s),
+        Fault::Label(i) => place_number(WRONG_LABELS, 0, i),
+        Fault::Slot(s) => place_number(WRONG_SLOTS, 0, s),
+        Fault::Offset(p) => place_number(WRONG_LISTS, 1, p),
+        Fault::Entry(_, j) => place_number(WRONG_LISTS, 2, j),
+        Fault::Unlisted(s) => place_number(WRONG_LISTS, 3, s),
+        Fault::Childless(s) => place_number(WRONG_LISTS, 4, s),
+        Fault::RootBase => place_number(WRONG_LISTS, 5, 1),
+        Fault::Unreachable(s) => place_number(UNREACHABLE, 0, s),
     }
 }

@@ -1,8 +1,8 @@
 -- The number of the case that the value is.
 use borrow.Author.Needs.{needs}
-use Rattle.lxtr_c.specs.Entries.{value-number, none-number}
-use Rattle.lxtr_c.proofs.numbers.value_numbered.Statement.{statement}
-use Rattle.lxtr_c.proofs.numbers.value_numbered.Tie as tie
+use Rattle.lxtr_host.specs.Numbering.{value-number, none-number}
+use Rattle.lxtr_host.proofs.numbers.value_numbered.Statement.{statement}
+use Rattle.lxtr_host.proofs.numbers.value_numbered.Tie as tie
 
 pub value-numbered-spec : {M : Type 1} → statement M
 value-numbered-spec =

@@ -2,9 +2,9 @@
 use borrow.Author.Needs.{needs}
 use native.Mathlib.Omega.{arith}
 use Rattle.lxtr_laws.specs.Tallies.{one-at-most}
-use Rattle.lxtr_c.specs.Numbers.{number-added}
-use Rattle.lxtr_c.proofs.numbers.host_number.Statement.{statement}
-use Rattle.lxtr_c.proofs.numbers.host_number.Tie as tie
+use Rattle.lxtr_host.specs.Numbering.{number-added}
+use Rattle.lxtr_host.proofs.numbers.host_number.Statement.{statement}
+use Rattle.lxtr_host.proofs.numbers.host_number.Tie as tie
 
 pub host-number-spec : {M : Type 1} → statement M
 host-number-spec =

@@ -1,9 +1,9 @@
 -- The number of the case that the fault is.
 use borrow.Author.Needs.{needs}
 use Rattle.lxtr_spec.specs.HostNumbers.{faultNumbered}
-use Rattle.lxtr_c.specs.Entries.{fault-case}
-use Rattle.lxtr_c.proofs.numbers.fault_numbered.Statement.{statement}
-use Rattle.lxtr_c.proofs.numbers.fault_numbered.Tie as tie
+use Rattle.lxtr_host.specs.Numbering.{fault-case}
+use Rattle.lxtr_host.proofs.numbers.fault_numbered.Statement.{statement}
+use Rattle.lxtr_host.proofs.numbers.fault_numbered.Tie as tie
 
 pub fault-numbered-spec : {M : Type 1} → statement M
 unfolding faultNumbered
