@@ -1,36 +1,8 @@
 //! The archive's C functions, with slices for pointers and lengths.
 
-#[link(name = "lxtr_c", kind = "static")]
-extern "C" {
-    fn lxtr_check(image: *const u8, image_len: usize) -> u64;
-    fn lxtr_exact(image: *const u8, image_len: usize, query: *const u8, query_len: usize) -> u64;
-    fn lxtr_probe(image: *const u8, image_len: usize, query: *const u8, query_len: usize) -> u64;
-    fn lxtr_longest(image: *const u8, image_len: usize, query: *const u8, query_len: usize) -> u64;
-    fn lxtr_prefixes(
-        image: *const u8,
-        image_len: usize,
-        query: *const u8,
-        query_len: usize,
-        places: *mut u32,
-        places_len: usize,
-    ) -> u64;
-    fn lxtr_complete(
-        image: *const u8,
-        image_len: usize,
-        prefix: *const u8,
-        prefix_len: usize,
-        room: *mut u8,
-        room_len: usize,
-    ) -> u64;
-    fn lxtr_build(
-        keys: *const u8,
-        keys_len: usize,
-        work: *mut u32,
-        work_len: usize,
-        out: *mut u8,
-        out_len: usize,
-    ) -> u64;
-}
+use crate::functions::{
+    lxtr_build, lxtr_check, lxtr_complete, lxtr_exact, lxtr_longest, lxtr_prefixes, lxtr_probe,
+};
 
 // SAFETY of every call below: a slice is valid for its length, and one lent by
 // `&mut` overlaps no other.

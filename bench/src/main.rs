@@ -10,6 +10,9 @@ mod calls;
 mod clock;
 mod contestant;
 mod dictionary;
+#[allow(dead_code)] // lxtr_fault is not measured
+#[path = "../../crosscheck/src/bin/crosscheck/functions.rs"]
+mod functions;
 mod keys;
 mod measure;
 mod operations;

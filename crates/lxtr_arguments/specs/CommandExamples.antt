@@ -3,6 +3,7 @@ use Prim.Native.Nat.{ℕ}
 use Prim.Native.String.{String}
 use mathlib.Core.Path.{_≡_, refl}
 use mathlib.Core.List.{List, [], _∷_}
+use Rattle.lxtr_laws.specs.ExampleTables.{AllHold, _and_}
 use Rattle.lxtr_command_spec.specs.declared.Command.{Command}
 use Rattle.lxtr_command_spec.specs.declared.Command.the-variants.{Check, Exact, Prefixes, Longest, Probe, Complete, Build, Keys, Draw, Help, Unknown, WrongOperands}
 use Rattle.lxtr_command_spec.specs.Commands.{asciiFrom, ascii, sameBytes, taking, row, laterRows, commandOf}
@@ -13,10 +14,6 @@ pub data Example : Type 0 where
 
 abbrev pub Holds : Example → Type 0
 Holds (means name n command) = commandOf (ascii name) n ≡ command
-
-abbrev pub AllHold : List Example → Type 0
-AllHold [] = Unit {0}
-AllHold (e ∷ es) = Holds e × AllHold es
 
 unfoldable pub examples : List Example
 examples =
@@ -51,12 +48,7 @@ examples =
     ∷ means "drew" 1 Unknown
     ∷ []
 
--- a row, and the rest of the table
-infixr 20 _and_
-_and_ : {A B : Type 0} → A → B → A × B
-a and b = (a, b)
-
-pub command-examples-hold : AllHold examples
+pub command-examples-hold : AllHold Holds examples
 unfolding examples asciiFrom ascii sameBytes taking row laterRows commandOf
 command-examples-hold =
     refl and refl and refl and refl and refl and refl and refl and refl and refl and refl and refl

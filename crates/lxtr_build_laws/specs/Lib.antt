@@ -6,7 +6,6 @@ pub mod Work
 pub mod Keys
 pub mod Passing
 -- the code map: rising lists, the labels used, and their order
-pub mod Inserted
 pub mod Rising
 pub mod Moving
 pub mod Labels

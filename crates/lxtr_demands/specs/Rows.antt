@@ -1,7 +1,7 @@
 -- Rows of a table of examples: what is run on the definitions, and what it has to give.
 use Prim.Native.Nat.{ℕ, _+_, _-_, _*_, _^_}
 use mathlib.Core.Path.{_≡_}
-use mathlib.Core.List.{List, [], _∷_, _++_}
+use mathlib.Core.List.{List, [], _++_}
 use mathlib.Core.Option.{Option, none}
 use mathlib.Core.Bool.{Bool, true, false, cond}
 use lib.Dec.{ltb}
@@ -23,6 +23,8 @@ use Rattle.lxtr_spec.specs.Placing.{baseAt, checkAt, isTakenFrom2, isFree, fits
 use Rattle.lxtr_spec.specs.Builds.{headerBytes, mapBytes, imageBytes, slotsUsed, isChild, childBy, childrenOf, childrenIn, offsetsFrom, imageIn, slotsIn, placedIn, withRoom, fromPlaced, fromLabels, fromKeys, outcomeOf, answered, workAfter, buildOf}
 use Rattle.lxtr_spec.specs.Samples.{p1, p2, nodes3, offsets3, children3, labels3, p3, p7, p8-check, p8-slot, p9-labels, p9-longer, p10, p11, keyRecords, keyList}
 use Rattle.lxtr_spec.specs.declared.Fault.{Fault}
+use Rattle.lxtr_laws.specs.ExampleTables as tables
+pub use Rattle.lxtr_laws.specs.ExampleTables.{_and_}
 
 -- what is run, and what it gives; a query is given by its labels
 pub data Example : Type 0 where
@@ -115,13 +117,7 @@ Holds (build-refused list n m k) =
 
 -- every row of a table holds
 abbrev pub AllHold : List Example → Type 0
-AllHold [] = Unit {0}
-AllHold (e ∷ es) = Holds e × AllHold es
-
--- a row, and the rest of the table
-infixr 20 _and_
-pub _and_ : {A B : Type 0} → A → B → A × B
-a and b = (a, b)
+AllHold es = tables.AllHold Holds es
 
 -- every definition that a row runs: to unfold this name is to unfold them all
 unfoldable pub computing : Unit {0}

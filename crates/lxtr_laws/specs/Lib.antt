@@ -13,6 +13,9 @@ pub mod ReadBack
 pub mod Sorted
 pub mod Counting
 pub mod Members
+pub mod Leading
+pub mod Inserted
+pub mod OrderedLists
 pub mod Runs
 pub mod Lengths
 pub mod Overlays
@@ -31,3 +34,5 @@ pub mod Stepping
 pub mod Queries
 pub mod Walking
 pub mod Searches
+-- how a table of computed examples is stated and proved
+pub mod ExampleTables

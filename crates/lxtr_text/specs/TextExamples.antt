@@ -5,6 +5,7 @@ use mathlib.Core.Path.{_≡_, refl}
 use mathlib.Core.List.{List, [], _∷_, _++_}
 use Rattle.lxtr_spec.specs.Labels.{isScalar}
 use Rattle.lxtr_spec.specs.Lines.{digitOf, numeral, decimal, hexadecimal, labelsText}
+use Rattle.lxtr_laws.specs.ExampleTables.{AllHold, _and_}
 use Rattle.lxtr_command_spec.specs.Utf8.{utf8}
 use Rattle.lxtr_command_spec.specs.Commands.{asciiFrom, ascii}
 use Rattle.lxtr_command_spec.specs.Forms.{isControl, shown, quoted, shownAll, spaced, keyText, completionLine, prefixLine, nextNumber, piece, takes, filled}
@@ -27,10 +28,6 @@ Holds (quotes x t) = quoted x ≡ t
 Holds (completes xs value t) = completionLine (xs, value) ≡ t
 Holds (precedes length value xs t) = prefixLine length value xs ≡ t
 Holds (fills form ns t) = filled (ascii form) ns ≡ t
-
-abbrev pub AllHold : List Example → Type 0
-AllHold [] = Unit {0}
-AllHold (e ∷ es) = Holds e × AllHold es
 
 -- U+FFFD
 abbrev replacement : List ℕ
@@ -75,12 +72,7 @@ examples =
     ∷ fills "%" (7 ∷ 8 ∷ []) (ascii "7")
     ∷ []
 
--- a row, and the rest of the table
-infixr 20 _and_
-_and_ : {A B : Type 0} → A → B → A × B
-a and b = (a, b)
-
-pub text-examples-hold : AllHold examples
+pub text-examples-hold : AllHold Holds examples
 unfolding examples isScalar digitOf numeral decimal hexadecimal labelsText utf8 asciiFrom ascii isControl shown quoted shownAll spaced keyText completionLine prefixLine nextNumber piece takes filled
 text-examples-hold =
     refl and refl and refl and refl and refl and refl

@@ -5,6 +5,7 @@ use mathlib.Core.List.{List, [], _∷_, _++_}
 use lib.ListN.{length, replicate}
 use Rattle.lxtr_spec.specs.Numbers.{beBytes, beWords}
 use Rattle.lxtr_spec.specs.Labels.{isScalar}
+use Rattle.lxtr_laws.specs.ExampleTables.{AllHold, _and_}
 use Rattle.lxtr_command_spec.specs.Utf8.{utf8, textOf, frontNumber, beginsWith, beginsRight, optionCons, labelsWithin, labelsOfText, counted, countOf, decoding, decodingOf}
 
 pub data Example : Type 0 where
@@ -25,10 +26,6 @@ Holds (reads t xs) =
     × (decodingOf t (unwritten (4 * length xs + 1)) ≡ record { answer = record { problem = 0; count = length xs }; room = beWords xs ++ unwritten 1 })
     × (decodingOf t (unwritten (4 * length xs - 1)) ≡ record { answer = record { problem = 4; count = 0 }; room = unwritten (4 * length xs - 1) })
 Holds (refused t) = (countOf t ≡ record { problem = 1; count = 0 }) × (decodingOf t (unwritten 16) ≡ record { answer = record { problem = 1; count = 0 }; room = unwritten 16 })
-
-abbrev pub AllHold : List Example → Type 0
-AllHold [] = Unit {0}
-AllHold (e ∷ es) = Holds e × AllHold es
 
 unfoldable pub examples : List Example
 examples =
@@ -63,12 +60,7 @@ examples =
     ∷ refused (0xC3 ∷ []) ∷ refused (0xE3 ∷ 0x81 ∷ []) ∷ refused (0xF0 ∷ 0x9F ∷ 0x98 ∷ []) ∷ refused (0xC3 ∷ 0x29 ∷ []) ∷ refused (0xE3 ∷ 0x81 ∷ 0x02 ∷ []) ∷ refused (0xE3 ∷ 0xC1 ∷ 0x82 ∷ [])
     ∷ []
 
--- a text, and the rest of the table
-infixr 20 _and_
-_and_ : {A B : Type 0} → A → B → A × B
-a and b = (a, b)
-
-pub utf8-examples-hold : AllHold examples
+pub utf8-examples-hold : AllHold Holds examples
 unfolding examples beBytes beWords isScalar utf8 textOf frontNumber beginsWith beginsRight optionCons labelsWithin labelsOfText counted countOf decoding decodingOf
 utf8-examples-hold =
     (refl, refl, refl, refl) and (refl, refl, refl, refl) and (refl, refl, refl, refl)

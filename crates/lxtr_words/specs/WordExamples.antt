@@ -6,6 +6,7 @@ use lib.ListN.{length, replicate}
 use Rattle.lxtr_spec.specs.Numbers.{beBytes, beWords}
 use Rattle.lxtr_spec.specs.Labels.{isScalar, maxLabels, comesBefore}
 use Rattle.lxtr_spec.specs.Samples.{keyRecords, keyList}
+use Rattle.lxtr_laws.specs.ExampleTables.{AllHold, _and_}
 use Rattle.lxtr_command_spec.specs.Utf8.{utf8, frontNumber, beginsWith, beginsRight, optionCons, labelsWithin, labelsOfText}
 use Rattle.lxtr_command_spec.specs.WordLists.{linesFrom, linesOf, wordOf, labelsProblem, wordProblem, firstProblem, insertKey, insertLabels, keysOfLines, keysOfText, refusedWords, keyed, keyedLines, keyedOf}
 
@@ -25,10 +26,6 @@ Holds (lists t ks) =
     (keyedOf t (unwritten (length (keyList ks) + 1)) ≡ record { answer = record { problem = 0; line = 0; count = length ks; length = length (keyList ks) }; output = keyList ks ++ unwritten 1 })
     × (keyedOf t (unwritten (length (keyList ks) - 1)) ≡ refusedWords 4 0 (unwritten (length (keyList ks) - 1)))
 Holds (refuses t problem line) = keyedOf t (unwritten 16) ≡ refusedWords problem line (unwritten 16)
-
-abbrev pub AllHold : List Example → Type 0
-AllHold [] = Unit {0}
-AllHold (e ∷ es) = Holds e × AllHold es
 
 unfoldable pub examples : List Example
 examples =
@@ -53,12 +50,7 @@ examples =
     ∷ refuses (replicate 65 0x61 ++ (0x0A ∷ 0xFF ∷ [])) 2 1
     ∷ []
 
--- a row, and the rest of the table
-infixr 20 _and_
-_and_ : {A B : Type 0} → A → B → A × B
-a and b = (a, b)
-
-pub word-examples-hold : AllHold examples
+pub word-examples-hold : AllHold Holds examples
 unfolding examples beBytes beWords isScalar maxLabels comesBefore keyRecords keyList utf8 frontNumber beginsWith beginsRight optionCons labelsWithin labelsOfText linesFrom linesOf wordOf labelsProblem wordProblem firstProblem insertKey insertLabels keysOfLines keysOfText refusedWords keyed keyedLines keyedOf
 word-examples-hold =
     (refl, refl) and (refl, refl) and (refl, refl) and (refl, refl) and (refl, refl) and (refl, refl) and (refl, refl) and (refl, refl)

@@ -1,43 +1,14 @@
 //! The implementation under test: the archive's C functions and the listing program.
 
 use crate::call::{number_of_text, Call};
+use crate::functions::{
+    lxtr_build, lxtr_check, lxtr_complete, lxtr_exact, lxtr_fault, lxtr_longest, lxtr_prefixes,
+    lxtr_probe,
+};
 use crate::lent::Lent;
 use std::io::Write;
 use std::path::PathBuf;
 use std::process::{Command, Stdio};
-
-#[link(name = "lxtr_c", kind = "static")]
-extern "C" {
-    fn lxtr_check(image: *const u8, image_len: usize) -> u64;
-    fn lxtr_fault(image: *const u8, image_len: usize) -> u64;
-    fn lxtr_exact(image: *const u8, image_len: usize, query: *const u8, query_len: usize) -> u64;
-    fn lxtr_probe(image: *const u8, image_len: usize, query: *const u8, query_len: usize) -> u64;
-    fn lxtr_longest(image: *const u8, image_len: usize, query: *const u8, query_len: usize) -> u64;
-    fn lxtr_prefixes(
-        image: *const u8,
-        image_len: usize,
-        query: *const u8,
-        query_len: usize,
-        places: *mut u32,
-        places_len: usize,
-    ) -> u64;
-    fn lxtr_complete(
-        image: *const u8,
-        image_len: usize,
-        prefix: *const u8,
-        prefix_len: usize,
-        room: *mut u8,
-        room_len: usize,
-    ) -> u64;
-    fn lxtr_build(
-        keys: *const u8,
-        keys_len: usize,
-        work: *mut u32,
-        work_len: usize,
-        out: *mut u8,
-        out_len: usize,
-    ) -> u64;
-}
 
 const GUARD: usize = 16;
 const BEFORE: u8 = 0xA5;

@@ -18,6 +18,7 @@ mod call;
 mod comparison;
 mod damage;
 mod explore;
+mod functions;
 mod keysets;
 mod lent;
 mod placer;

@@ -1,0 +1,50 @@
+//! The archive's C functions, declared for this program and for the benchmark, which
+//! takes this file in. It is no module of the library: that has nothing of the archive.
+
+#[link(name = "lxtr_c", kind = "static")]
+extern "C" {
+    pub fn lxtr_check(image: *const u8, image_len: usize) -> u64;
+    pub fn lxtr_fault(image: *const u8, image_len: usize) -> u64;
+    pub fn lxtr_exact(
+        image: *const u8,
+        image_len: usize,
+        query: *const u8,
+        query_len: usize,
+    ) -> u64;
+    pub fn lxtr_probe(
+        image: *const u8,
+        image_len: usize,
+        query: *const u8,
+        query_len: usize,
+    ) -> u64;
+    pub fn lxtr_longest(
+        image: *const u8,
+        image_len: usize,
+        query: *const u8,
+        query_len: usize,
+    ) -> u64;
+    pub fn lxtr_prefixes(
+        image: *const u8,
+        image_len: usize,
+        query: *const u8,
+        query_len: usize,
+        places: *mut u32,
+        places_len: usize,
+    ) -> u64;
+    pub fn lxtr_complete(
+        image: *const u8,
+        image_len: usize,
+        prefix: *const u8,
+        prefix_len: usize,
+        room: *mut u8,
+        room_len: usize,
+    ) -> u64;
+    pub fn lxtr_build(
+        keys: *const u8,
+        keys_len: usize,
+        work: *mut u32,
+        work_len: usize,
+        out: *mut u8,
+        out_len: usize,
+    ) -> u64;
+}
