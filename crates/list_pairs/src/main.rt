@@ -2,17 +2,17 @@
 // for each pair. What a line says is decided by `lxtr_text`.
 ghost use mathlib.Core.Path.{_≡_};
 ghost use mathlib.Core.Bool.{true};
-ghost use Rattle.lxtr_text.specs.Records.{isWholeRecord};
+ghost use Rattle.lxtr_lines.specs.Records.{isWholeRecord};
 use libc::STDIN_FILENO;
 use libc::STDOUT_FILENO;
 use lxtr_build::build;
 use lxtr_bytes::heads::HEAD_LENGTH;
 use lxtr_complete::complete;
+use lxtr_lines::is_whole_record;
+use lxtr_lines::number_line;
+use lxtr_lines::pair_line;
+use lxtr_lines::record_end;
 use lxtr_text::LINE_ROOM;
-use lxtr_text::is_whole_record;
-use lxtr_text::number_line;
-use lxtr_text::pair_line;
-use lxtr_text::record_end;
 
 // The longest key list. One byte more is read, so that a longer input is known.
 const INPUT_ROOM: usize = 32768;

@@ -6,7 +6,7 @@ use crate::output::printed;
 use crate::output::say;
 use crate::rooms::FILE_ROOM;
 use crate::rooms::LARGEST_FILE;
-use lxtr_text::joined;
+use lxtr_lines::joined;
 
 // Tells what failed, with the system's reason.
 pub fn fail(what: &[u8]) {

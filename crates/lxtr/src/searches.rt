@@ -1,7 +1,7 @@
 // The commands that look an image over or up: check, exact, prefixes, longest, probe and complete.
 ghost use mathlib.Core.Path.{_≡_};
 ghost use mathlib.Core.Bool.{true};
-ghost use Rattle.lxtr_text.specs.Records.{isWholeRecord};
+ghost use Rattle.lxtr_lines.specs.Records.{isWholeRecord};
 use crate::output::end;
 use crate::output::print;
 use crate::output::printed;
@@ -10,15 +10,15 @@ use crate::rooms::LISTING_ROOM;
 use crate::words::refuse;
 use crate::words::refuse_at;
 use lxtr_bytes::heads::HEAD_LENGTH;
+use lxtr_lines::completion_line;
+use lxtr_lines::is_whole_record;
+use lxtr_lines::key_line;
+use lxtr_lines::prefix_line;
+use lxtr_lines::record_end;
 use lxtr_spec::Found;
 use lxtr_spec::LENGTH_COUNT;
 use lxtr_spec::MAX_LABELS;
 use lxtr_text::LINE_ROOM;
-use lxtr_text::completion_line;
-use lxtr_text::is_whole_record;
-use lxtr_text::key_line;
-use lxtr_text::prefix_line;
-use lxtr_text::record_end;
 
 pub fn check(image: &[u8]) {
     let verdict = lxtr_check::check(image);

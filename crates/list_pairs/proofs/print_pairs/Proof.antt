@@ -2,7 +2,7 @@
 use Prim.Native.Nat.{_≤_, _-_}
 use borrow.Author.Needs.{needs}
 use native.Mathlib.Omega.{arith}
-use Rattle.lxtr_text.specs.Records.{is-whole}
+use Rattle.lxtr_lines.specs.Records.{is-whole}
 use Rattle.list_pairs.proofs.print_pairs.Statement.{statement}
 use Rattle.list_pairs.proofs.print_pairs.Tie as tie
 

@@ -2,7 +2,7 @@
 use borrow.Author.Needs.{needs}
 use Prim.Native.Nat.{_≤_, _-_}
 use native.Mathlib.Omega.{arith}
-use Rattle.lxtr_text.specs.Records.{is-whole}
+use Rattle.lxtr_lines.specs.Records.{is-whole}
 use Rattle.lxtr.proofs.searches.print_completions.Statement.{statement}
 use Rattle.lxtr.proofs.searches.print_completions.Tie as tie
 
