@@ -1,22 +1,22 @@
 -- What the demands rule out, whatever else a program does. Some bytes are an image and some are none: P3 is one, P10 is not, though
 -- its lists and parents agree with each other. So no check that refuses P3 or accepts P10 meets demand 3; and over P3 and P11 no search
--- with a constant answer meets demand 2, and no completion that writes nothing.
-use Prim.Native.Nat.{ℕ, _%_, _≤_}
+-- with a constant answer meets demand 2, no longest match that is always empty, and no completion that writes nothing or counts nothing.
+use Prim.Native.Nat.{ℕ, _*_, _%_, _≤_}
 use native.Mathlib.Omega.{arith}
 use mathlib.Core.Path.{_≡_, refl, sym, ap, _∙_}
 use mathlib.Core.Logic.{_≢_, _↔_}
 use mathlib.Core.List.{List, [], _∷_, _++_}
 use mathlib.Core.Option.{Option, some, none}
 use mathlib.Core.Bool.{cond}
-use lib.ListN.{length, drop, getD, replicate}
+use lib.ListN.{length, take, drop, getD, replicate}
 use lib.Dec.{ltb}
 use Rattle.lxtr_spec.specs.Numbers.{beWords}
 use Rattle.lxtr_spec.specs.Labels.{labelsOf, Pair}
 use Rattle.lxtr_spec.specs.Refusals.{checkOf}
-use Rattle.lxtr_spec.specs.Searches.{ExactAnswer, ProbeAnswer, exactOf, prefixesAnswer, prefixesOf, probeOf}
+use Rattle.lxtr_spec.specs.Searches.{ExactAnswer, LongestAnswer, ProbeAnswer, exactOf, prefixesAnswer, prefixesOf, longestOf, probeOf}
 use Rattle.lxtr_spec.specs.Completions.{CompletionAnswer, listingOf, roomFor, completionOf}
 use Rattle.lxtr_spec.specs.Sets.{PairSet, ImageOf}
-use Rattle.lxtr_spec.specs.Meaning.{PrefixesIn, Lists, FittingFront}
+use Rattle.lxtr_spec.specs.Meaning.{PrefixesIn, LongestIn, Lists, FittingFront}
 use Rattle.lxtr_spec.specs.Samples.{p3, p10, p11}
 use Rattle.lxtr_spec.specs.declared.Verdict.{Verdict}
 use Rattle.lxtr_spec.specs.declared.Prefixes.{Prefixes}
@@ -55,6 +55,21 @@ refuses-all-fails check passes refuses = refuses-p3-fails check passes (refuses 
 
 pub accepts-all-fails : (check : List ℕ → Verdict) → Passes check → ((b : List ℕ) → check b .refusal ≡ 0) → ⊥
 accepts-all-fails check passes accepts = accepts-p10-fails check passes (accepts p10)
+
+-- what demand 3 says of the number of pairs: a check that answers none for every image fails it, over P3
+abbrev Counts : (List ℕ → Verdict) → Type 0
+Counts check = (b : List ℕ) (d : PairSet) (ps : List Pair) → ImageOf b d → Lists b d [] ps → check b ≡ record { refusal = 0; pairs = length ps }
+
+p3-pairs : checkOf p3 .pairs ≡ 2
+unfolding computing
+p3-pairs = refl
+
+pub no-pairs-fails : (check : List ℕ → Verdict) → Counts check → ((b : List ℕ) → check b .pairs ≡ 0) → ⊥
+no-pairs-fails check counts nothing =
+    let (d, image) = p3-is-image in
+    let (ps, are) = demand3 p3 .listing d image in
+    let same : check p3 ≡ checkOf p3 = counts p3 d ps image are ∙ sym (demand3 p3 .answer d ps image are) in
+    omega (arith, nothing p3, ap (λ (v : Verdict). v .pairs) same, p3-pairs)
 
 -- two queries of P4 to P6: 6E, and 61, which is no key
 abbrev six-e : List ℕ
@@ -99,6 +114,22 @@ constant-prefixes-fail prefixes say same = prefixes-differ (sym (agree six-e ref
         let (ms, are) = searched .some-prefixes in
         say p3 d q ms image whole are ∙ sym (searched .prefixes ms are)
 
+-- any longest match: one that is always empty fails it,
+abbrev LongestSays : (List ℕ → List ℕ → LongestAnswer) → Type 0
+LongestSays longest = (b : List ℕ) (d : PairSet) (q : List ℕ) (n : ℕ) → ImageOf b d → length q % 4 ≡ 0 → LongestIn d (labelsOf q) n → longest b q ≡ record { refusal = 0; part = take (4 * n) q }
+
+longest-not-empty : length (longestOf p3 six-e .part) ≡ 4
+unfolding computing
+longest-not-empty = refl
+
+pub empty-longest-fails : (longest : List ℕ → List ℕ → LongestAnswer) → LongestSays longest → ((q : List ℕ) → longest p3 q .part ≡ []) → ⊥
+empty-longest-fails longest says empty =
+    let (d, image) = p3-is-image in
+    let searched = demand2 p3 d six-e image refl .searched in
+    let (n, is) = searched .some-longest in
+    let same : longest p3 six-e ≡ longestOf p3 six-e = says p3 d six-e n image refl is ∙ sym (searched .longest n is) in
+    omega (arith, longest-not-empty, ap (λ (a : LongestAnswer). length (a .part)) same, ap length (empty six-e))
+
 -- any probe,
 abbrev ProbeSays : (List ℕ → List ℕ → ProbeAnswer) → Type 0
 ProbeSays probe = (b : List ℕ) (d : PairSet) (q : List ℕ) → ImageOf b d → length q % 4 ≡ 0 → probe b q .value ≡ d (labelsOf q)
@@ -126,13 +157,21 @@ room-differs : completionOf p11 [] blank .room ≡ blank → ⊥
 unfolding computing
 room-differs e = let z : _≡_ {A = ℕ} 1 255 = ap (λ (r : List ℕ). getD r 0 0) e in omega arith
 
+-- and so does one that answers count 0
+count-differs : completionOf p11 [] blank .answer .count ≡ 3
+unfolding computing
+count-differs = refl
+
+lists-p11 : (complete : List ℕ → List ℕ → List ℕ → CompletionAnswer) → CompletionSays complete → complete p11 [] blank ≡ completionOf p11 [] blank
+lists-p11 complete says =
+    let (d, image) = p11-is-image in
+    let answered = demand2 p11 d [] image refl in
+    let (ps, are) = answered .some-listing in
+    let (fit, front) = answered .some-front ps blank (omega arith) in
+    says p11 d [] ps fit blank image refl are (omega arith) front ∙ sym (answered .completion ps fit blank are (omega arith) front)
+
 pub idle-completion-fails : (complete : List ℕ → List ℕ → List ℕ → CompletionAnswer) → CompletionSays complete → ((room : List ℕ) → complete p11 [] room .room ≡ room) → ⊥
-idle-completion-fails complete says idle = room-differs (sym (ap (λ (r : CompletionAnswer). r .room) agrees) ∙ idle blank)
-  where
-    agrees : complete p11 [] blank ≡ completionOf p11 [] blank
-    agrees =
-        let (d, image) = p11-is-image in
-        let answered = demand2 p11 d [] image refl in
-        let (ps, are) = answered .some-listing in
-        let (fit, front) = answered .some-front ps blank (omega arith) in
-        says p11 d [] ps fit blank image refl are (omega arith) front ∙ sym (answered .completion ps fit blank are (omega arith) front)
+idle-completion-fails complete says idle = room-differs (sym (ap (λ (r : CompletionAnswer). r .room) (lists-p11 complete says)) ∙ idle blank)
+
+pub uncounted-completion-fails : (complete : List ℕ → List ℕ → List ℕ → CompletionAnswer) → CompletionSays complete → ((room : List ℕ) → complete p11 [] room .answer .count ≡ 0) → ⊥
+uncounted-completion-fails complete says nothing = omega (arith, count-differs, nothing blank, ap (λ (r : CompletionAnswer). r .answer .count) (lists-p11 complete says))
