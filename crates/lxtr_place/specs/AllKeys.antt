@@ -26,6 +26,7 @@ use Rattle.lxtr_build_laws.specs.Slots.{zeros-check}
 use Rattle.lxtr_place.specs.declared.groups.Group.{Group}
 use Rattle.lxtr_place.specs.Groups.{placeOf, groupFrom, groupOf, Placeable, Lent}
 use Rattle.lxtr_place.specs.Children.{Fresh}
+use Rattle.lxtr_place.specs.Within.{Called}
 use Rattle.lxtr_place.specs.Agreeing.{Agree, place-same}
 
 group-keys : (b : List ℕ) (n i at : ℕ) → groupFrom b 0 n i at ≡ keysFrom b n i at
@@ -42,7 +43,7 @@ module _ (b : List ℕ) (n : ℕ) (e : n ≡ keyCount b) where
   unfolding pairsOf
   all-pairs = ap (λ (k : ℕ). groupFrom b 0 k 0 keysAt) e ∙ group-keys b (keyCount b) 0 keysAt
 
-  pub all-placeable : (labels codes order : List ℕ) → KeysPassed b → CodeTables (pairsOf b) labels codes order → Placeable b labels codes (all n)
+  all-placeable : (labels codes order : List ℕ) → KeysPassed b → CodeTables (pairsOf b) labels codes order → Placeable b labels codes (all n)
   all-placeable labels codes order k t = record {
     grouped = record { whole = rw e (k .whole); values = omega (arith, k .few); shallow = omega arith };
     ascending = rw all-pairs (k .right .ascending);
@@ -110,7 +111,7 @@ pub starts-enough : (b starts : List ℕ) → KeysPassed b → length starts ≡
 starts-enough b starts k l = omega (arith, k .few)
 
 -- what is lent has a start for each of them
-pub all-lent : (b starts room : List ℕ) (n : ℕ) → KeysPassed b → n ≡ keyCount b → StartsPut b starts (keyCount b + 1) → length starts ≡ maxKeys + 1 → length room ≡ maxKeys + lengthCount → Lent b starts (all n) lengthCount room
+all-lent : (b starts room : List ℕ) (n : ℕ) → KeysPassed b → n ≡ keyCount b → StartsPut b starts (keyCount b + 1) → length starts ≡ maxKeys + 1 → length room ≡ maxKeys + lengthCount → Lent b starts (all n) lengthCount room
 all-lent b starts room n k e s l m = record { indexed = record { inside = omega (arith, k .few); each = λ i h. ap (λ (m : ℕ). getD starts m 0) (zero-add i) ∙ s .each i (omega arith) }; long = omega (arith, k .few) }
 
 -- slot 1 of cleared work may be gone into
@@ -118,7 +119,7 @@ module _ (w : List ℕ) (clear : Cleared w) where
   check-zero : (t : ℕ) → checkAt w t ≡ 0
   check-zero t = rw (clear .zeros) (zeros-check (length w) t)
 
-  pub root-fresh : (S : ℕ) → S ≡ slotsIn (length w) → Fresh S w 1
+  root-fresh : (S : ℕ) → S ≡ slotsIn (length w) → Fresh S w 1
   unfolding slotsIn
   root-fresh S e = record {
     ready = record {
@@ -131,6 +132,11 @@ module _ (w : List ℕ) (clear : Cleared w) where
     no-child = λ t q. omega (arith, check-zero t);
     parent-taken = λ t h f. omega (arith, check-zero t, f .from);
   }
+
+-- so `place` may be called with all of them
+pub all-called : (b starts labels codes order room w : List ℕ) (S n : ℕ) → KeysPassed b → CodeTables (pairsOf b) labels codes order → Cleared w → n ≡ keyCount b → S ≡ slotsIn (length w) → StartsPut b starts (keyCount b + 1) → length starts ≡ maxKeys + 1 → length room ≡ maxKeys + lengthCount
+    → Called b starts labels codes order S lengthCount 1 (all n) w room
+all-called b starts labels codes order room w S n k t clear e slots s l m = record { tables = t; placeable = all-placeable b n e labels codes order k t; fresh = root-fresh w clear S slots; deep = omega arith; lent = all-lent b starts room n k e s l m }
 
 -- what is placed is what the definitions say
 module _ (b labels codes order w : List ℕ) (t : CodeTables (pairsOf b) labels codes order) (clear : Cleared w) where

@@ -172,7 +172,21 @@ pub record Searching (b : List ℕ) (g : Group) (x low high : ℕ) : Type 0 wher
   pub passed : below x (groupOf b g) ≡ below x (groupOf b (from g (placeOf b low (g .at)) low))
   pub reached : (high ≡ g .count) ⊎ (isUnder x (drop (g .depth) (keyAt b (placeOf b high (g .at)))) ≡ false)
 
-module _ (b starts : List ℕ) (g : Group) (x : ℕ) (s : Indexed b starts g) (w : Grouped b g) where
+-- where key i starts
+module _ (b starts : List ℕ) (g : Group) (s : Indexed b starts g) (w : Grouped b g) (i : ℕ) (h : i ≤ g .count) where
+  pub start-sum : Fits w64 (g .first + i)
+  start-sum = fits-under w64 (g .first + i) (2 ^ 32) (omega (arith, w .values)) tt
+
+  pub start-fits : Fits w64 ((g .first + i) * 4)
+  start-fits = fits-under w64 ((g .first + i) * 4) (2 ^ 32) (omega (arith, w .values)) tt
+
+  pub start-inside : g .first + i < length starts
+  start-inside = omega (arith, s .inside)
+
+  pub start-is : (a : ℕ) → a ≡ getD starts (g .first + i) 0 → a ≡ placeOf b i (g .at)
+  start-is a e = e ∙ s .each i h
+
+module _ (b : List ℕ) (g : Group) (x : ℕ) (w : Grouped b g) where
   pub search-start : Searching b g x 0 (g .count)
   search-start = record { between = omega arith; to = omega arith; passed = sym (ap (below x) (onward-start b (g .depth) (g .count) (g .first) (g .at))); reached = inl refl }
 
@@ -182,19 +196,7 @@ module _ (b starts : List ℕ) (g : Group) (x : ℕ) (s : Indexed b starts g) (w
       abbrev mid : ℕ
       mid = low + (high - low) / 2
 
-      pub mid-sum : Fits w64 (g .first + mid)
-      mid-sum = fits-under w64 (g .first + mid) (2 ^ 32) (omega (arith, w .values, r .to)) tt
-
-      pub mid-fits : Fits w64 ((g .first + mid) * 4)
-      mid-fits = fits-under w64 ((g .first + mid) * 4) (2 ^ 32) (omega (arith, w .values, r .to)) tt
-
-      pub mid-inside : g .first + mid < length starts
-      mid-inside = omega (arith, s .inside, r .to)
-
-      module _ (a : ℕ) (is-at : a ≡ getD starts (g .first + mid) 0) where
-        at-mid : a ≡ placeOf b mid (g .at)
-        at-mid = is-at ∙ s .each mid (omega (arith, r .to))
-
+      module _ (a : ℕ) (at-mid : a ≡ placeOf b mid (g .at)) where
         pub mid-whole : WholeKey b a
         unfolding WholeKeys
         mid-whole =
@@ -221,24 +223,12 @@ module _ (b starts : List ℕ) (g : Group) (x : ℕ) (s : Indexed b starts g) (w
       pub inside : low ≤ g .count
       inside = omega (arith, r .between, r .to)
 
-      pub low-sum : Fits w64 (g .first + low)
-      low-sum = fits-under w64 (g .first + low) (2 ^ 32) (omega (arith, w .values, inside)) tt
-
-      pub low-fits : Fits w64 ((g .first + low) * 4)
-      low-fits = fits-under w64 ((g .first + low) * 4) (2 ^ 32) (omega (arith, w .values, inside)) tt
-
-      pub low-inside : g .first + low < length starts
-      low-inside = omega (arith, s .inside, inside)
-
-      module _ (a : ℕ) (is-at : a ≡ getD starts (g .first + low) 0) where
-        at-low : a ≡ placeOf b low (g .at)
-        at-low = is-at ∙ s .each low inside
-
+      module _ (a : ℕ) (at-low : a ≡ placeOf b low (g .at)) where
         pub found-group : Grouped b (from g a low)
         found-group = record { whole = rw at-low (whole-onward b (g .count) (g .at) low inside (w .whole)); values = omega (arith, w .values, inside); shallow = w .shallow }
 
-        pub found-started : Indexed b starts (from g a low)
-        found-started = record {
+        pub found-started : (starts : List ℕ) → Indexed b starts g → Indexed b starts (from g a low)
+        found-started starts s = record {
           inside = omega (arith, s .inside, inside);
           each = λ i h.
               let e : g .first + low + i ≡ g .first + (low + i) = omega arith in

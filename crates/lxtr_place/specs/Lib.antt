@@ -1,5 +1,5 @@
 -- What the placing's code computes, turn by turn. The public contracts use none of it; those of private functions use Groups
--- and the definitions that open Settling, Codes and Children.
+-- and the definitions that open Settling, Codes, Children and Within.
 pub mod Slots
 pub mod Fitting
 pub mod Settling
@@ -7,9 +7,10 @@ pub mod Groups
 pub mod Runs
 pub mod GroupLoops
 pub mod Codes
--- the recursion: the next child is fresh, and the turns of the loop
+-- the recursion: the next child is fresh, the turns of the loop, and what is known meanwhile
 pub mod Children
 pub mod Turns
+pub mod Within
 -- from the tables to the code map, and all keys
 pub mod Agreeing
 pub mod AllKeys

@@ -7,7 +7,7 @@ ghost use Rattle.lxtr_spec.specs.KeyLists.{keyAt};
 ghost use Rattle.lxtr_spec.specs.Placing;
 ghost use Rattle.lxtr_spec.specs.Placing.{endValue};
 ghost use Rattle.lxtr_build_laws.specs.KeyLists.{WholeKey, Ascending};
-ghost use Rattle.lxtr_place.specs.Groups.{groupOf, Grouped, Indexed, goesBy, isUnder, runOf};
+ghost use Rattle.lxtr_place.specs.Groups.{placeOf, groupOf, Grouped, Indexed, goesBy, isUnder, runOf};
 ghost use Rattle.lxtr_place.specs.Runs.{tails};
 use lxtr_bytes::numbers::index;
 use lxtr_keys::key_label;
@@ -44,6 +44,16 @@ fn is_under(keys: &[u8], at: usize, depth: usize, x: u32) -> bool
     key_label(keys, at, depth) < x
 }
 
+// Where key i of the group starts. Behind the last one that is where its keys end.
+fn start_of(keys: &[u8], starts: &[u32], g: Group, i: usize) -> usize
+    requires { ⌜ Grouped (now keys) g ⌝ }
+    requires { ⌜ Indexed (now keys) (now starts) g ⌝ }
+    requires { ⌜ i ≤ g .count ⌝ }
+    ensures { λ r. ⌜ r ≡ placeOf (now (keys .entry)) i (g .at) ⌝ }
+{
+    index(starts[g.first + i])
+}
+
 // The group from its first key on that is not under x, by binary search.
 fn skip_to(keys: &[u8], starts: &[u32], g: Group, x: u32) -> Group
     requires { ⌜ Grouped (now keys) g ⌝ }
@@ -58,14 +68,14 @@ fn skip_to(keys: &[u8], starts: &[u32], g: Group, x: u32) -> Group
     let mut high = g.count;
     while low < high {
         let mid = low + (high - low) / 2;
-        if is_under(keys, index(starts[g.first + mid]), g.depth, x) {
+        if is_under(keys, start_of(keys, starts, g, mid), g.depth, x) {
             low = mid + 1;
         } else {
             high = mid;
         }
     }
     Group {
-        at: index(starts[g.first + low]),
+        at: start_of(keys, starts, g, low),
         first: g.first + low,
         count: g.count - low,
         depth: g.depth,

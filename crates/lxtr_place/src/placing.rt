@@ -3,15 +3,14 @@ ghost use mathlib.Core.Path.{_≡_};
 ghost use Prim.Native.Nat.{_+_, _*_, _-_, _≤_, _<_};
 ghost use lib.ListN.{getD, length};
 ghost use Rattle.lxtr_spec.specs.Labels.{lengthCount};
-ghost use Rattle.lxtr_spec.specs.KeyLists.{pairsOf};
 ghost use Rattle.lxtr_spec.specs.Placing;
 ghost use Rattle.lxtr_spec.specs.Placing.{endValue};
 ghost use Rattle.lxtr_build_laws.specs.KeyLists.{Ascending};
-ghost use Rattle.lxtr_build_laws.specs.CodeTables.{codeBy, labelBy, CodeTables};
+ghost use Rattle.lxtr_build_laws.specs.CodeTables.{codeBy, labelBy};
 ghost use Rattle.lxtr_build_laws.specs.Work.{placedAs};
-ghost use Rattle.lxtr_place.specs.Groups.{groupOf, Grouped, Indexed, Placeable, Lent};
+ghost use Rattle.lxtr_place.specs.Groups.{groupOf, Grouped, Indexed};
 ghost use Rattle.lxtr_place.specs.Settling.{settledAs};
-ghost use Rattle.lxtr_place.specs.Children.{Fresh};
+ghost use Rattle.lxtr_place.specs.Within.{Called};
 use crate::codes::child_codes;
 use crate::groups::Group;
 use crate::groups::below;
@@ -76,11 +75,7 @@ pub fn place(
     p: u32,
     g: Group,
 ) -> bool
-    requires { ⌜ CodeTables (pairsOf (now keys)) (now labels) (now codes) (now order) ⌝ }
-    requires { ⌜ Placeable (now keys) (now labels) (now codes) g ⌝ }
-    requires { ⌜ Fresh slots (now work) p ⌝ }
-    requires { ⌜ left + g .depth ≡ lengthCount ⌝ }
-    requires { ⌜ Lent (now keys) (now starts) g left (now room) ⌝ }
+    requires { ⌜ Called (now keys) (now starts) (now labels) (now codes) (now order) slots left p g (now work) (now room) ⌝ }
     ensures { λ r. ⌜ placedAs r (now (work .exit)) ≡ Placing.place slots (codeBy (now (labels .entry)) (now (codes .entry))) (labelBy (now (labels .entry)) (now (order .entry))) left p (groupOf (now (keys .entry)) g) (now (work .entry)) ⌝ }
 {
     if left == 0 {

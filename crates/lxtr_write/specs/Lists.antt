@@ -1,7 +1,8 @@
 -- The children lists as the code writes them: each child as an entry of the children array, behind those before it; and the offsets.
-use Prim.Native.Nat.{ℕ, zero, suc, _+_, _*_, _-_, _^_, _≤_, _<_}
+use Prim.Native.Nat.{ℕ, zero, suc, _+_, _*_, _-_, _^_, _≤_, _<_, min}
 use native.Mathlib.Numerals.{add-one}
 use native.Mathlib.Nat.{zero-add, add-zero}
+use native.Mathlib.Decide.{ℕ-discrete}
 use native.Mathlib.Omega.{arith}
 use mathlib.Core.Path.{_≡_, refl, sym, ap, ap₂, _∙_, subst}
 use mathlib.Core.Logic.{_≢_, ⊎-elim}
@@ -96,62 +97,70 @@ module _ (w : List ℕ) (N p : ℕ) (out₀ : List ℕ) (at start : ℕ) where
       so-far = rw (one-more (childBy w N p) c) (put-more out₀ at start out out′ e r (concatFrom c 0 (childBy w N p)) (childBy w N p c) (omega (arith, children-more h)) (g .so-far) q);
     }
 
--- The children so far are written, and t is the next one by its code, or 0.
+-- The children so far are written, and t is the next one by its code, or 0. There is room for its entry.
 pub record Following (w : List ℕ) (N L p : ℕ) (out₀ : List ℕ) (at start : ℕ) (out : List ℕ) (e t : ℕ) : Type 0 where
   pub k : ℕ
   pub so-far : ChildrenSoFar w N p out₀ at start out e k
   pub first : First w N L p k t
   pub small : t < maxSlots
+  pub space : at + 4 * (e + min 1 t) ≤ length out
 
 module _ (w : List ℕ) (N L : ℕ) (links : List ℕ) (s : Linked w N L N links) (slots : Slots w N) (p : ℕ) (p-from : p ≢ 0) (p-to : p < N) (out₀ : List ℕ) (at start : ℕ) where
   pub head-inside : p < length links
   head-inside = omega (arith, s .size)
 
-  pub follow-start : (t : ℕ) → t ≡ getD links p 0 → Following w N L p out₀ at start out₀ start t
-  follow-start t e =
-      let f : First w N L p 0 t = rw e (s .heads p (omega arith) p-to) in
-      record { k = 0; so-far = children-start w N p out₀ at start; first = f; small = first-small w N L p 0 t f (slots .few) }
+  module _ (room : at + 4 * (start + length (concatFrom (L + 1) 0 (childBy w N p))) ≤ length out₀) where
+    module _ (out : List ℕ) (e t k : ℕ) (so-far : ChildrenSoFar w N p out₀ at start out e k) (f : First w N L p k t) where
+      -- no child stands between
+      at-next : ChildrenSoFar w N p out₀ at start out e (f .reach)
+      at-next =
+          let m : ℕ = f .reach - k in
+          let is : k + m ≡ f .reach = omega (arith, f .from) in
+          let same : concatFrom (f .reach) 0 (childBy w N p) ≡ concatFrom k 0 (childBy w N p) =
+          ap (λ (n : ℕ). concatFrom n 0 (childBy w N p)) (sym is) ∙ gives-none (childBy w N p) k m (λ e l u. by-none w N p e (f .gap e l (omega arith))) in
+          record { same-length = so-far .same-length; so-far = rw same (so-far .so-far) }
 
-  module _ (room : at + 4 * (start + length (concatFrom (L + 1) 0 (childBy w N p))) ≤ length out₀) (out : List ℕ) (e t : ℕ) (g : Following w N L p out₀ at start out e t) where
-    -- no child stands between
-    at-next : ChildrenSoFar w N p out₀ at start out e (g .first .reach)
-    at-next =
-        let m : ℕ = g .first .reach - g .k in
-        let f = g .first in
-        let is : g .k + m ≡ f .reach = omega (arith, f .from) in
-        let same : concatFrom (f .reach) 0 (childBy w N p) ≡ concatFrom (g .k) 0 (childBy w N p) =
-        ap (λ (n : ℕ). concatFrom n 0 (childBy w N p)) (sym is) ∙ gives-none (childBy w N p) (g .k) m (λ e l u. by-none w N p e (f .gap e l (omega arith))) in
-        record { same-length = g .so-far .same-length; so-far = rw same (g .so-far .so-far) }
+      module _ (some-child : t ≢ 0) where
+        listed : (t ≡ slot w p (f .reach)) × (f .reach ≤ L) × Child w N p t
+        listed = child w N L N links s p (omega arith) p-to k t f some-child
 
-    module _ (some-child : t ≢ 0) where
-      listed : (t ≡ slot w p (g .first .reach)) × (g .first .reach ≤ L) × Child w N p t
-      listed = child w N L N links s p (omega arith) p-to (g .k) t (g .first) some-child
+        one : childBy w N p (f .reach) ≡ t ∷ []
+        one = by-one w N p (f .reach) (child-there w N L N links s p (omega arith) p-to k t f some-child) ∙ ap (λ (x : ℕ). x ∷ []) (sym (listed .0))
 
-      one : childBy w N p (g .first .reach) ≡ t ∷ []
-      one = by-one w N p (g .first .reach) (child-there w N L N links s p (omega arith) p-to (g .k) t (g .first) some-child) ∙ ap (λ (x : ℕ). x ∷ []) (sym (listed .0))
+        entry-room : at + 4 * (e + 1) ≤ length out
+        entry-room = omega (arith, children-room w N p out₀ at start L room out e (f .reach) at-next (listed .1), ap length one)
 
-      pub follow-room : at + 4 * e + 4 ≤ length out
-      follow-room = omega (arith, children-room w N p out₀ at start L room out e (g .first .reach) at-next (listed .1), ap length one)
+      following : Following w N L p out₀ at start out e t
+      following = record { k = k; so-far = so-far; first = f; small = first-small w N L p k t f (slots .few); space = space (ℕ-discrete t 0) }
+        where
+          space : Dec (t ≡ 0) → at + 4 * (e + min 1 t) ≤ length out
+          space (yes z) = omega (arith, so-far .same-length, at-next .so-far .next, concat-front (childBy w N p) 0 (f .reach) (L + 1) (f .to))
+          space (no o) = omega (arith, entry-room o)
 
-      pub follow-index : maxSlots + t < length links
-      follow-index = next-index w N L N links s p (omega arith) p-to (g .k) t (g .first) some-child (slots .few)
+    pub follow-start : (t : ℕ) → t ≡ getD links p 0 → Following w N L p out₀ at start out₀ start t
+    follow-start t e = following out₀ start t 0 (children-start w N p out₀ at start) (rw e (s .heads p (omega arith) p-to))
 
-      module _ (t′ : ℕ) (next : t′ ≡ getD links (maxSlots + t) 0) where
-        pub follow-next : (out′ : List ℕ) → length out′ ≡ length out → out′ ≡ over out (at + 4 * e) (leBytes t) → Following w N L p out₀ at start out′ (e + 1) t′
-        follow-next out′ l h = record {
-          small = first-small w N L p _ t′ (next-first w N L N links s p (omega arith) p-to (g .k) t (g .first) some-child t′ next) (slots .few);
-          k = g .first .reach + 1;
-          so-far = children-next w N p out₀ at start L room out e (g .first .reach) at-next out′ (e + 1) (listed .1) l (rw one (put-one out at e out′ t h));
-          first = next-first w N L N links s p (omega arith) p-to (g .k) t (g .first) some-child t′ next;
-        }
+    module _ (out : List ℕ) (e t : ℕ) (g : Following w N L p out₀ at start out e t) where
+      module _ (some-child : t ≢ 0) where
+        pub follow-index : maxSlots + t < length links
+        follow-index = next-index w N L N links s p (omega arith) p-to (g .k) t (g .first) some-child (slots .few)
 
-        pub follow-less : ahead (baseAt w p) L t′ < ahead (baseAt w p) L t
-        follow-less = next-less w N L N links s p (omega arith) p-to (g .k) t (g .first) some-child L t′ (listed .1) next
+        module _ (t′ : ℕ) (next : t′ ≡ getD links (maxSlots + t) 0) where
+          pub follow-next : (out′ : List ℕ) → length out′ ≡ length out → out′ ≡ over out (at + 4 * e) (leBytes t) → Following w N L p out₀ at start out′ (e + 1) t′
+          follow-next out′ l h =
+              let f = g .first in
+              let reached = listed out e t (g .k) (g .so-far) f some-child .1 in
+              following out′ (e + 1) t′ (f .reach + 1)
+              (children-next w N p out₀ at start L room out e (f .reach) (at-next out e t (g .k) (g .so-far) f) out′ (e + 1) reached l (rw (one out e t (g .k) (g .so-far) f some-child) (put-one out at e out′ t h)))
+              (next-first w N L N links s p (omega arith) p-to (g .k) t f some-child t′ next)
 
-    pub follow-end : t ≡ 0 → Put out₀ out at start e (concatFrom (L + 1) 0 (childBy w N p))
-    follow-end z =
-        let last : g .first .reach ≡ L + 1 = ⊎-elim (λ a. a .1) (λ a. absurd (omega (arith, a .2 .from))) (g .first .is) in
-        subst (λ (n : ℕ). Put out₀ out at start e (concatFrom n 0 (childBy w N p))) last (at-next .so-far)
+          pub follow-less : ahead (baseAt w p) L t′ < ahead (baseAt w p) L t
+          follow-less = next-less w N L N links s p (omega arith) p-to (g .k) t (g .first) some-child L t′ (listed out e t (g .k) (g .so-far) (g .first) some-child .1) next
+
+      pub follow-end : t ≡ 0 → Put out₀ out at start e (concatFrom (L + 1) 0 (childBy w N p))
+      follow-end z =
+          let last : g .first .reach ≡ L + 1 = ⊎-elim (λ a. a .1) (λ a. absurd (omega (arith, a .2 .from))) (g .first .is) in
+          subst (λ (n : ℕ). Put out₀ out at start e (concatFrom n 0 (childBy w N p))) last (at-next out e t (g .k) (g .so-far) (g .first) .so-far)
 
 -- the list of slot p: slot 0 and an end have none
 module _ (w : List ℕ) (N L p : ℕ) where

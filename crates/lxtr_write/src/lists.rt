@@ -67,6 +67,25 @@ fn put_list(
     put_children(out, at, work, slots, last, links, p, start)
 }
 
+// Writes the offsets from a place on, and behind them the lists of all slots, as the links give them.
+fn put_linked(out: &mut [u8], at: usize, work: &[u32], slots: usize, last: u32, links: &[u16])
+    requires { ⌜ Slots (now work) slots ⌝ }
+    requires { ⌜ Linked (now work) slots last slots (now links) ⌝ }
+    requires { ⌜ length (childrenIn (now work) slots last) ≤ slots ⌝ }
+    requires { ⌜ at + 4 * (slots + 1) + 4 * length (childrenIn (now work) slots last) ≤ length (now out) ⌝ }
+    ensures { λ _. ⌜ now (out .exit) ≡ over (now (out .entry)) at (leWords (offsetsFrom (now (work .entry)) slots last slots 0 0) ++ leWords (childrenIn (now (work .entry)) slots last)) ⌝ }
+{
+    let children_at = at + 4 * (slots + 1);
+    let mut e = 0;
+    let mut p = 0;
+    while p < slots {
+        put_le32(out, at + 4 * p, e as u32);
+        e = put_list(out, children_at, work, slots, last, links, p as u32, e);
+        p += 1;
+    }
+    put_le32(out, at + 4 * p, e as u32);
+}
+
 // Writes the offsets from a place on, and behind them the lists of all slots.
 pub fn put_lists(out: &mut [u8], at: usize, work: &[u32], slots: usize, last: u32)
     requires { ⌜ Slots (now work) slots ⌝ }
@@ -76,13 +95,5 @@ pub fn put_lists(out: &mut [u8], at: usize, work: &[u32], slots: usize, last: u3
 {
     let mut links = [0u16; LINK_COUNT];
     link_all(work, slots, last, &mut links);
-    let children_at = at + 4 * (slots + 1);
-    let mut e = 0;
-    let mut p = 0;
-    while p < slots {
-        put_le32(out, at + 4 * p, e as u32);
-        e = put_list(out, children_at, work, slots, last, &links, p as u32, e);
-        p += 1;
-    }
-    put_le32(out, at + 4 * p, e as u32);
+    put_linked(out, at, work, slots, last, &links);
 }

@@ -1,8 +1,7 @@
 -- All keys are slot 1's group; on their labels the tables agree with the code map.
 use borrow.Author.Needs.{needs}
-use native.Mathlib.Omega.{arith}
 use Rattle.lxtr_spec.specs.Labels.{maxLabels}
-use Rattle.lxtr_place.specs.AllKeys.{all-placeable, starts-enough, all-lent, root-fresh, all-placed}
+use Rattle.lxtr_place.specs.AllKeys.{starts-enough, all-called, all-placed}
 use Rattle.lxtr_place.proofs.place_all.Statement.{statement}
 use Rattle.lxtr_place.proofs.place_all.Tie as tie
 
@@ -20,6 +19,6 @@ place-all-spec =
     (λ c. search needs)
     (λ c. search needs)
     (λ c. search needs)
-    (λ c κs. (search needs, (search all-placeable, (search root-fresh, (omega arith, search all-lent)))))
+    (λ c κs. search all-called)
     (λ c. search needs)
     (λ c. search all-placed))

@@ -13,7 +13,7 @@ decode-spec =
     (tie.spec
     (λ c κs. search needs)
     (λ c. search decode-problem)
-    (λ c. let h : length (c .before .before .before .before .before .before .before .args .room .now) / 4 < c .before .before .before .before .count-labels .result .count = omega arith in search decode-short)
+    (λ c. search decode-short)
     (λ c κs. (search decode-text, search decode-room))
     (λ c. search needs)
     (λ c. search decode-done))

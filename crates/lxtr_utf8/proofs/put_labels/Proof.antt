@@ -15,6 +15,13 @@ Inv-loop text room₀ at₀ i₀ room at i = LabelsPut text room₀ at i room
 abbrev μ-loop : tie.MeasureT-loop
 μ-loop text room₀ at₀ i₀ room at i = length text - at
 
+-- the places of the code that facts are taken from: after the character is read, and the loop
+abbrev read : tie.After-struct-known Inv-loop μ-loop → tie.After-first-character Inv-loop μ-loop
+read c = c .before .before .before .before .before
+
+abbrev loop : tie.After-first-character Inv-loop μ-loop → tie.At-loop Inv-loop μ-loop
+loop c = c .before .before .before
+
 pub put-labels-spec : {M : Type 1} → statement M
 put-labels-spec =
     tie.close
@@ -28,7 +35,7 @@ put-labels-spec =
     (λ c κs. search needs)
     (λ c. omega arith)
     (λ c κs. search put-place)
-    (λ c. let l = c .before .before .before .before .before .before .before .before in let f : Fits w64 (length (l .before .before .before .args .text .now)) = omega arith in search from-fits)
+    (λ c. let f : Fits w64 (length (loop (read c) .before .before .before .args .text .now)) = omega arith in search from-fits)
     (λ c. omega arith)
     (λ c. search put-less)
     (λ c. search put-next)

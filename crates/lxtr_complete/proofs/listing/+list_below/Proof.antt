@@ -41,6 +41,48 @@ Inv image left n path₀ room₀ at count₀ len base end ends j₀ here₀ path
 abbrev μ : lts.MeasureT-loop
 μ image left n path₀ room₀ at count₀ len base end ends j₀ here₀ path room count j here = end - j
 
+-- The places of the code that facts are taken from, and the way from each to the one before it.
+module _ (t : ℕ) where
+  abbrev Entry : Type 0
+  Entry = lts.Start (told t) (at t) list-below.Post Inv μ
+
+  abbrev Some : Type 0
+  Some = lts.Else1 (told t) (at t) list-below.Post Inv μ
+
+  abbrev Read : Type 0
+  Read = lts.After-offset-at2 (told t) (at t) list-below.Post Inv μ
+
+  abbrev Loop : Type 0
+  Loop = lts.At-loop (told t) (at t) list-below.Post Inv μ
+
+  abbrev Chosen : Type 0
+  Chosen = lts.After-entry-at (told t) (at t) list-below.Post Inv μ
+
+  abbrev Asked : Type 0
+  Asked = lts.After-list-below-arg3 (told t) (at t) list-below.Post Inv μ
+
+  abbrev entry : Some → Entry
+  entry c = c .before .before .before
+
+  abbrev some : Read → Some
+  some c = c .before .before .before .before
+
+  abbrev read : Loop → Read
+  read c = let listed = c .before .before .before in listed .before .before .before .before
+
+  abbrev loop : Chosen → Loop
+  loop c = c .before .before .before
+
+  abbrev chosen : Asked → Chosen
+  chosen c = c .before .before .before
+
+  abbrev gone : lts.After-slice-known3 (told t) (at t) list-below.Post Inv μ → Loop
+  gone c = loop (chosen (c .before .before .before))
+
+  -- where the loop starts from
+  abbrev start : Loop → Entry
+  start l = entry (some (read l))
+
 pub +list-below-spec : {M : Type 1} → statement M
 unfolding maxLabels
 +list-below-spec =
@@ -61,9 +103,9 @@ unfolding maxLabels
     (λ c. search needs)
     (λ c. search needs)
     (λ c. search needs)
-    (λ c κs. (omega arith, (search needs, search (going-below, c .before .before .before .before .before .before .loop .inv, c .before .before .before .before .before .before .before .before .before .before .before .before .before .before .before .before .before .before .before .before .pre .1 .1))))
+    (λ c κs. (omega arith, (search needs, search (going-below, loop t (chosen t c) .loop .inv, start t (loop t (chosen t c)) .pre .1 .1))))
     (λ c. search needs)
     (λ c. omega arith)
-    (λ c. search (going-on, c .before .before .before .before .before .before .before .before .before .loop .inv, c .before .before .before .before .before .before .before .before .before .before .before .before .before .before .before .before .before .before .before .before .before .before .before .pre .1))
+    (λ c. search (going-on, gone t c .loop .inv, start t (gone t c) .pre .1))
     (λ c. search going-room)
     (λ c. (search going-end, search going-kept))

@@ -24,5 +24,5 @@ put-record-spec =
     (λ c. search needs)
     (λ c κs. (omega arith, (omega arith, simp length-set (omega arith))))
     (λ c. search needs)
-    (λ c. let a = c .before .before .before .before .before .before .before .args in c .before .before .put-words .kept .1 .1 .0 ∙ length-set (a .room .now) (a .at) (a .len))
+    (λ c. c .before .before .put-words .kept .1 .1 .0 ∙ simp length-set)
     (λ c. search record-in))

@@ -15,10 +15,10 @@ use Rattle.lxtr_spec.specs.Labels.{maxLabels, Pair}
 use Rattle.lxtr_spec.specs.KeyLists.{maxKeys}
 use Rattle.lxtr_build_laws.specs.CodeTables.{codeBy, labelBy}
 use Rattle.lxtr_place.specs.declared.groups.Group.{Group}
-use Rattle.lxtr_place.specs.Groups.{groupOf, Grouped}
-use Rattle.lxtr_place.specs.GroupLoops.{group-size, child-placeable}
-use Rattle.lxtr_place.specs.Codes.{order-long, order-inside, front-size}
-use Rattle.lxtr_place.specs.Turns.{Started, Going, no-label-left, none-fits, start, going-start, going-size, going-end, turn-past, turn-small, turn-fresh, turn-room, turn-on, turn-refused}
+use Rattle.lxtr_place.specs.Groups.{groupOf}
+use Rattle.lxtr_place.specs.Codes.{front-size}
+use Rattle.lxtr_place.specs.Turns.{Going, no-label-left, none-fits}
+use Rattle.lxtr_place.specs.Within.{Within, within, codes-fit, codes-inside, code-fits, code-inside, next-fits, loop-first, work-size, room-size, loop-end, past-end, child-asked, child-called, child-placed, child-refused}
 use Rattle.lxtr_place.proofs.placing.place.Reads as place
 use Rattle.lxtr_place.proofs.placing.place.Kinds as place-kinds
 use Rattle.lxtr_place.proofs.placing.+place.Lts-place as lts
@@ -60,82 +60,116 @@ Inv keys starts labels guesses codes order work₀ slots room₀ left p g count 
 abbrev μ : lts.MeasureT-loop
 μ keys starts labels guesses codes order work₀ slots room₀ left p g count base j₀ work room j = count - j
 
+-- The places of the code that facts are taken from, and the way from each to the one before it.
 module _ (t : ℕ) where
-  -- what the loop starts from
-  started : (l : lts.After-known-told (told t) (at t) place.Post Inv μ) →
-      let a = l .before .before .before .before .before .before .before .before .before .before .before .before .before .before .before .before .before .before .before .before .before .args in
-      Started (a .slots) (codeBy (a .labels .now) (a .codes .now)) (labelBy (a .labels .now) (a .order .now)) (a .left) (groupOf (a .keys .now) (a .g))
-      (length (a .labels .now)) (a .p) (a .work .now) (l .before .fit .given .0 .0) (l .before .before .before .before .before .settle-group .last .1 .0)
-  unfolding maxLabels
-  started l =
-      let s = l .before .before .before .before .before .before .before .before .before .before .before .before .before .before .before .before .before .before .before .before .before in
-      start _ _ _ _ _ _ _ _ _ _ (l .before .before .before .before .before .before .before .before .before .before .child-codes .ensures .1) (l .before .before .before .before .before .settle-group .ensures) (l .before .before .before .before .before .before .before .before .before .before .before .before .if1 .left) _ _ (l .before .fit .given .1) (s .pre .1 .1 .1 .0) (s .pre .1 .1 .0 .codes-in)
+  abbrev Entry : Type 0
+  Entry = lts.Start (told t) (at t) place.Post Inv μ
 
--- an index into the room, as bytes
-scaled : {S : ℕ} {code label : ℕ → ℕ} {left : ℕ} {g : List Pair} {k b : ℕ} {u room₀ room : List ℕ} {j : ℕ} {x : List ℕ} → Going S code label left g k b u room₀ room j x → {i : ℕ} → i ≤ k → Fits w64 (i * 4)
-scaled g {i = i} h = fits-under w64 (i * 4) (2 ^ 32) (omega (arith, g .small)) tt
+  abbrev Told : Type 0
+  Told = lts.After-slice-known2 (told t) (at t) place.Post Inv μ
 
-counted : {S : ℕ} {code label : ℕ → ℕ} {left : ℕ} {g : List Pair} {k b : ℕ} {u room₀ room : List ℕ} {j : ℕ} {x : List ℕ} → Going S code label left g k b u room₀ room j x → j < k → Fits w64 (j + 1)
-counted {j = j} g h = fits-under w64 (j + 1) (2 ^ 32) (omega (arith, g .small)) tt
+  abbrev Coded : Type 0
+  Coded = lts.After-child-codes (told t) (at t) place.Post Inv μ
 
-few-codes : {b : List ℕ} {g : Group} {k : ℕ} → Grouped b g → k ≤ g .count → k ≤ maxKeys
-few-codes w h = omega (arith, w .values)
+  abbrev Settled : Type 0
+  Settled = lts.After-settle-group (told t) (at t) place.Post Inv μ
+
+  abbrev Based : Type 0
+  Based = lts.After-known-told (told t) (at t) place.Post Inv μ
+
+  abbrev Loop : Type 0
+  Loop = lts.At-loop (told t) (at t) place.Post Inv μ
+
+  abbrev Turn : Type 0
+  Turn = lts.Then2 (told t) (at t) place.Post Inv μ
+
+  abbrev Asked : Type 0
+  Asked = lts.After-place-arg2 (told t) (at t) place.Post Inv μ
+
+  abbrev Answered : Type 0
+  Answered = lts.After-place (told t) (at t) place.Post Inv μ
+
+  abbrev entry : Told → Entry
+  entry c = let half = c .before .before .before .before in half .before .before .before .before
+
+  abbrev coded : Settled → Coded
+  coded c = c .before .before .before .before .before
+
+  abbrev settled : Based → Settled
+  settled c = c .before .before .before .before .before
+
+  abbrev based : Loop → Based
+  based c = c .before
+
+  abbrev loop : Turn → Loop
+  loop c = c .before .before .before
+
+  abbrev turn : Asked → Turn
+  turn c = c .before .before .before .before
+
+  abbrev answered : lts.Then3 (told t) (at t) place.Post Inv μ → Answered
+  answered c = c .before .before .before .before .before
+
+  -- what is known in the loop
+  known : (l : Based) →
+      let k = coded (settled l) in
+      let a = entry (k .before .before .before) .args in
+      Within (a .keys .now) (a .starts .now) (a .labels .now) (a .codes .now) (a .order .now) (a .slots) (a .left) (a .p) (a .g) (a .work .now) (a .room .now)
+      (k .child-codes .result) (l .before .fit .given .0 .0) (settled l .settle-group .last .1 .0) (k .child-codes .last .1 .1 .1 .1 .1 .0)
+  known l =
+      let k = coded (settled l) in
+      within (entry (k .before .before .before) .pre .1) _ _ _ (k .child-codes .ensures .0) (k .child-codes .kept .1 .1 .1 .1 .1 .0) (k .child-codes .ensures .1) _ _ (settled l .settle-group .ensures) (l .before .fit .given .1) (k .before .before .if1 .left)
 
 pub +place-spec : {M : Type 1} → statement M
 unfolding maxLabels
 +place-spec =
     close μ-place λ t. lts.spec (told t) (at t) place.Post Inv μ
     (λ c. search no-label-left)
-    (λ c κs. let p = c .before .before .before .before .before .before .before .before .before .before .pre .1 in (p .1 .0, (p .0 .rising, omega (arith, p .1 .1 .1 .1 .long))))
+    (λ c κs. let p = entry t (c .before .before) .pre .1 in (p .placeable, (p .tables .rising, omega (arith, p .lent .long))))
     (λ c. search needs)
     (λ c. search front-size)
-    (λ c κs. let p = c .before .before .before .before .before .before .before .before .before .before .before .before .before .before .before .pre .1 in (p .1 .0 .grouped, (p .1 .0 .ascending, (p .1 .1 .0 .ready .room, p .1 .1 .0 .ready .to))))
+    (λ c κs.
+    let k = c .before .before .before .before in
+    let p = entry t (k .before .before .before) .pre .1 in (p .placeable .grouped, (p .placeable .ascending, (p .fresh .ready .room, p .fresh .ready .to))))
     (λ c. search needs)
     (λ c. search needs)
     (λ c. search needs)
     (λ c. search needs)
     (λ c. search none-fits)
-    (λ c. going-start (started t c) (few-codes (c .before .before .before .before .before .before .before .before .before .before .before .before .before .before .before .before .before .before .before .before .before .pre .1 .1 .0 .grouped) (c .before .before .before .before .before .before .before .before .before .before .child-codes .ensures .0)) (omega (arith, c .before .before .before .before .before .before .before .before .before .before .child-codes .ensures .0, c .before .before .before .before .before .before .before .before .before .before .child-codes .kept .1 .1 .1 .1 .1 .0, c .before .before .before .before .before .before .before .before .before .before .before .before .before .before .before .before .before .before .before .before .before .pre .1 .1 .1 .1 .1 .long)) (c .before .before .before .before .before .before .before .before .before .before .child-codes .ensures .1))
-    (λ c. scaled (c .before .loop .inv) (omega (arith, c .loop-test .taken)))
-    (λ c. omega (arith, c .before .loop-test .taken, c .before .before .loop .inv .few, c .before .before .loop .inv .size))
+    (λ c. loop-first (known t c))
+    (λ c. code-fits (c .before .loop .inv) (c .loop-test .taken))
+    (λ c. code-inside (c .before .before .loop .inv) (c .before .loop-test .taken))
     (λ c κs. search needs)
-    (λ c κs.
-    let p = c .before .before .before .before .before .before .before .before .before .before .before .before .before .before .before .before .before .before .before .before .before .before .before .before .before .before .pre .1 in
-    let small = turn-small (started t (c .before .before .before .before .before)) (c .before .before .before .before .loop .inv) (c .before .before .before .loop-test .taken) refl in (
-      (p .1 .0 .grouped, p .1 .1 .1 .1 .indexed),
-      (
-        p .1 .0 .ascending,
-        (
-          omega (arith, p .1 .1 .1 .0, started t (c .before .before .before .before .before) .some-left),
-          ((omega (arith, c .before .if2 .taken), order-long _ _ _ _ (p .0) _ (omega (arith, c .before .if2 .taken)) small), order-inside _ _ _ _ (p .0) _ (omega (arith, c .before .if2 .taken)) small),
-        ),
-      ),
-    ))
-    (λ c. scaled (c .before .before .before .before .before .before .loop .inv) (omega arith))
-    (λ c. omega (arith, c .before .before .before .before .before .before .loop .inv .few, c .before .before .before .before .before .before .loop .inv .size))
-    (λ c. omega (arith, c .before .before .before .before .before .before .loop .inv .few, c .before .before .before .before .before .before .loop .inv .size))
+    (λ c κs. let l = loop t (c .before) in child-asked (known t (l .before)) (l .loop .inv) (c .before .before .before .loop-test .taken) refl (c .before .if2 .taken))
+    (λ c. codes-fit (loop t (c .before .before .before) .loop .inv))
+    (λ c. codes-inside (loop t (c .before .before .before) .loop .inv))
+    (λ c. codes-inside (loop t (c .before .before .before) .loop .inv))
     (λ c. omega arith)
-    (λ c. omega (arith, started t (c .before .before .before .before .before .before .before .before) .some-left))
+    (λ c. omega (arith, known t (loop t (turn t c) .before) .started .some-left))
     (λ c κs.
-    let s = c .before .before .before .before .before .before .before .before .before .before .before .before .before .before .before .before .before .before .before .before .before .before .before .before .before .before .before .before .before in
-    let l = started t (c .before .before .before .before .before .before .before .before) in
-    let g = c .before .before .before .before .before .before .before .loop .inv in
-    let h = c .before .before .before .before .before .before .loop-test .taken in
+    let u = turn t c in
+    let l = loop t u in
+    let s = known t (l .before) in
     let child = c .before .before .child-group .ensures in
-    (omega (arith, s .pre .0, l .some-left), (s .pre .1 .0, (child-placeable _ _ _ _ _ _ (s .pre .1 .1 .0) (child .0) (child .1 .1 .1), (turn-fresh l g h refl (c .before .before .before .slot-under .ensures), (omega (arith, s .pre .1 .1 .1 .1 .0, child .1 .0, l .some-left), record { indexed = child .1 .1 .0; long = turn-room l g h refl (c .before .before .before .slot-under .ensures) _ _ _ (group-size _ (s .args .g)) (group-size _ (c .before .before .child-group .result)) (child .1 .1 .1) (omega (arith, s .pre .1 .1 .1 .1 .1 .long, c .before .before .before .before .before .before .before .before .before .before .before .before .before .before .before .before .before .before .child-codes .kept .1 .1 .1 .1 .1 .0)) }))))))
-    (λ c. c .before .before .before .before .before .place .kept .1 .1 .1 .1 .1 .1 .0 ∙ going-size (started t (c .before .before .before .before .before .before .before .before .before .before .before .before .before .before)) (c .before .before .before .before .before .before .before .before .before .before .before .before .before .loop .inv))
-    (λ c. c .before .before .room2 .given .1 ∙ c .before .before .before .before .before .before .before .before .before .before .before .before .before .loop .inv .size ∙ c .before .before .before .before .before .before .before .before .before .before .before .before .before .before .before .before .before .before .before .before .before .before .before .before .child-codes .kept .1 .1 .1 .1 .1 .0)
-    (λ c. turn-refused (started t (c .before .before .before .before .before .before .before .before .before .before .before .before .before .before)) (c .before .before .before .before .before .before .before .before .before .before .before .before .before .loop .inv) (c .before .before .before .before .before .before .before .before .before .before .before .before .loop-test .taken) refl (c .before .before .before .before .before .before .before .before .before .slot-under .ensures) (c .before .before .before .before .before .before .before .before .before .before .if2 .taken) (c .before .before .before .before .before .before .before .before .child-group .ensures .1 .1 .1) _ _ (c .before .before .before .before .before .place .ensures) (c .if3 .taken) _)
-    (λ c. counted (c .before .before .before .loop .inv) (c .before .before .loop-test .taken))
+    (omega (arith, entry t (coded t (settled t (l .before)) .before .before .before) .pre .0, s .started .some-left), child-called s (l .loop .inv) (u .before .before .loop-test .taken) refl (u .if2 .taken) (c .before .before .before .slot-under .ensures) (child .1 .1 .1) (child .0) (child .1 .0) (child .1 .1 .0)))
+    (λ c. let l = loop t (turn t (answered t c .before)) in answered t c .place .kept .1 .1 .1 .1 .1 .1 .0 ∙ work-size (known t (l .before)) (l .loop .inv))
+    (λ c. let l = loop t (turn t (answered t c .before)) in c .before .before .room2 .given .1 ∙ room-size (known t (l .before)) (l .loop .inv))
+    (λ c.
+    let a = answered t c in
+    let u = turn t (a .before) in
+    let l = loop t u in
+    let child = a .before .before .before in
+    child-refused (known t (l .before)) (l .loop .inv) (u .before .before .loop-test .taken) refl (u .if2 .taken) (child .before .slot-under .ensures) (child .child-group .ensures .1 .1 .1) _ _ (a .place .ensures) (c .if3 .taken) _)
+    (λ c. next-fits (c .before .before .before .loop .inv) (c .before .before .loop-test .taken))
     (λ c. omega (arith, c .before .before .loop-test .taken))
     (λ c.
-    let l = started t (c .before .before .before .before) in
-    let g = c .before .before .before .loop .inv in
+    let l = c .before .before .before in
+    let s = known t (l .before) in
     let h = c .before .before .loop-test .taken in
     ⊎-elim
-    (λ w. turn-on l g h refl (w .1 .ensures) (w .0 .taken) (w .2 .ensures .1 .1 .1) _ _ (w .5 .ensures) (w .10 .left) _ _ _ (w .12) (ap length (w .12) ∙ w .8 .given .1) (w .11))
-    (λ w. turn-past l g h refl (w .0 .left) _ _ (w .2) (w .1))
+    (λ w. child-placed s (l .loop .inv) h refl (w .0 .taken) (w .1 .ensures) (w .2 .ensures .1 .1 .1) _ _ (w .5 .ensures) (w .10 .left) _ _ _ (w .12) (ap length (w .12) ∙ w .8 .given .1) (w .11))
+    (λ w. past-end s (l .loop .inv) h refl (w .0 .left) _ _ (w .2) (w .1))
     (c .if2 .came))
-    (λ c. going-size (started t (c .before .before)) (c .before .loop .inv))
-    (λ c. c .before .loop .inv .size ∙ c .before .before .before .before .before .before .before .before .before .before .before .before .child-codes .kept .1 .1 .1 .1 .1 .0)
-    (λ c. going-end (started t (c .before .before)) (c .before .loop .inv) (c .loop-test .left))
+    (λ c. work-size (known t (c .before .before)) (c .before .loop .inv))
+    (λ c. room-size (known t (c .before .before)) (c .before .loop .inv))
+    (λ c. loop-end (known t (c .before .before)) (c .before .loop .inv) (c .loop-test .left))

@@ -1,9 +1,9 @@
 -- The links go from child to child; no code between two of them has a child.
-use mathlib.Core.Path.{refl}
+use borrow.Author.Needs.{needs}
 use native.Mathlib.Omega.{arith}
 use Rattle.lxtr_spec.specs.Placing.{baseAt}
 use Rattle.lxtr_write.specs.Links.{ahead}
-use Rattle.lxtr_write.specs.Lists.{Following, head-inside, follow-start, follow-room, follow-index, follow-less, follow-next, follow-end}
+use Rattle.lxtr_write.specs.Lists.{Following, head-inside, follow-start, follow-index, follow-less, follow-next, follow-end}
 use Rattle.lxtr_write.proofs.lists.put_children.Statement.{statement}
 use Rattle.lxtr_write.proofs.lists.put_children.Tie as tie
 
@@ -19,19 +19,19 @@ put-children-spec =
     (tie.spec
     Inv-loop
     μ-loop
-    (λ c. omega (arith, c .before .before .before .pre .0 .few, c .before .before .before .pre .1 .1 .0 .1))
+    (λ c. omega arith)
     (λ c. search head-inside)
     (λ c. search follow-start)
-    (λ c. omega (arith, follow-room _ _ _ _ (c .before .before .before .before .before .before .before .pre .1 .0) (c .before .before .before .before .before .before .before .pre .0) _ (c .before .before .before .before .before .before .before .pre .1 .1 .0 .0) (c .before .before .before .before .before .before .before .pre .1 .1 .0 .1) _ _ _ (c .before .before .before .before .before .before .before .pre .1 .1 .1) _ _ _ (c .before .before .loop .inv) (c .before .loop-test .taken), c .before .before .loop .inv .so-far .same-length))
-    (λ c. omega (arith, follow-room _ _ _ _ (c .before .before .before .before .before .before .before .pre .1 .0) (c .before .before .before .before .before .before .before .pre .0) _ (c .before .before .before .before .before .before .before .pre .1 .1 .0 .0) (c .before .before .before .before .before .before .before .pre .1 .1 .0 .1) _ _ _ (c .before .before .before .before .before .before .before .pre .1 .1 .1) _ _ _ (c .before .before .loop .inv) (c .before .loop-test .taken), c .before .before .loop .inv .so-far .same-length))
-    (λ c. omega (arith, c .before .before .loop .inv .small))
-    (λ c κs. follow-room _ _ _ _ (c .before .before .before .before .before .before .before .pre .1 .0) (c .before .before .before .before .before .before .before .pre .0) _ (c .before .before .before .before .before .before .before .pre .1 .1 .0 .0) (c .before .before .before .before .before .before .before .pre .1 .1 .0 .1) _ _ _ (c .before .before .before .before .before .before .before .pre .1 .1 .1) _ _ _ (c .before .before .loop .inv) (c .before .loop-test .taken))
-    (λ c. omega (arith, follow-room _ _ _ _ (c .before .before .before .before .before .before .before .before .before .before .pre .1 .0) (c .before .before .before .before .before .before .before .before .before .before .pre .0) _ (c .before .before .before .before .before .before .before .before .before .before .pre .1 .1 .0 .0) (c .before .before .before .before .before .before .before .before .before .before .pre .1 .1 .0 .1) _ _ _ (c .before .before .before .before .before .before .before .before .before .before .pre .1 .1 .1) _ _ _ (c .before .before .before .before .before .loop .inv) (c .before .before .before .before .loop-test .taken), c .before .before .before .before .before .loop .inv .so-far .same-length))
-    (λ c. omega (arith, c .before .before .before .before .before .loop .inv .small))
-    (λ c. omega (arith, c .before .before .before .before .before .loop .inv .small))
-    (λ c. omega (arith, c .before .before .before .before .before .loop .inv .small))
-    (λ c. follow-index _ _ _ _ (c .before .before .before .before .before .before .before .before .before .before .before .pre .1 .0) (c .before .before .before .before .before .before .before .before .before .before .before .pre .0) _ (c .before .before .before .before .before .before .before .before .before .before .before .pre .1 .1 .0 .0) (c .before .before .before .before .before .before .before .before .before .before .before .pre .1 .1 .0 .1) _ _ _ (c .before .before .before .before .before .before .before .before .before .before .before .pre .1 .1 .1) _ _ _ (c .before .before .before .before .before .before .loop .inv) (c .before .before .before .before .before .loop-test .taken))
-    (λ c. follow-less _ _ _ _ (c .before .before .before .before .before .before .before .before .before .before .before .pre .1 .0) (c .before .before .before .before .before .before .before .before .before .before .before .pre .0) _ (c .before .before .before .before .before .before .before .before .before .before .before .pre .1 .1 .0 .0) (c .before .before .before .before .before .before .before .before .before .before .before .pre .1 .1 .0 .1) _ _ _ (c .before .before .before .before .before .before .before .before .before .before .before .pre .1 .1 .1) _ _ _ (c .before .before .before .before .before .before .loop .inv) (c .before .before .before .before .before .loop-test .taken) _ refl)
-    (λ c. follow-next _ _ _ _ (c .before .before .before .before .before .before .before .before .before .before .before .pre .1 .0) (c .before .before .before .before .before .before .before .before .before .before .before .pre .0) _ (c .before .before .before .before .before .before .before .before .before .before .before .pre .1 .1 .0 .0) (c .before .before .before .before .before .before .before .before .before .before .before .pre .1 .1 .0 .1) _ _ _ (c .before .before .before .before .before .before .before .before .before .before .before .pre .1 .1 .1) _ _ _ (c .before .before .before .before .before .before .loop .inv) (c .before .before .before .before .before .loop-test .taken) _ refl _ (c .before .before .before .put-le32 .kept .0) (c .before .before .before .put-le32 .ensures))
-    (λ c. c .before .loop .inv .so-far .same-length)
-    (λ c. follow-end _ _ _ _ (c .before .before .before .before .before .before .pre .1 .0) (c .before .before .before .before .before .before .pre .0) _ (c .before .before .before .before .before .before .pre .1 .1 .0 .0) (c .before .before .before .before .before .before .pre .1 .1 .0 .1) _ _ _ (c .before .before .before .before .before .before .pre .1 .1 .1) _ _ _ (c .before .loop .inv) (c .loop-test .left)))
+    (λ c. omega arith)
+    (λ c. omega arith)
+    (λ c. omega arith)
+    (λ c κs. omega arith)
+    (λ c. omega arith)
+    (λ c. omega arith)
+    (λ c. omega arith)
+    (λ c. omega arith)
+    (λ c. search follow-index)
+    (λ c. search follow-less)
+    (λ c. search follow-next)
+    (λ c. search needs)
+    (λ c. search follow-end))

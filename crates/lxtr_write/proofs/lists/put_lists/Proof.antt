@@ -1,43 +1,16 @@
--- Invariant: the offsets and the lists of the slots before p are written.
--- Each turn lays one offset behind the offsets and one list behind the lists; the last offset comes after the loop.
+-- All slots are linked, and the lists go by the links.
 use borrow.Author.Needs.{needs}
 use mathlib.Core.Path.{refl}
-use Prim.Native.Nat.{_-_}
-use Rattle.lxtr_write.specs.Lists.{ListsSoFar, lists-start, lists-fit, lists-room, lists-next, lists-end}
 use Rattle.lxtr_write.proofs.lists.put_lists.Statement.{statement}
 use Rattle.lxtr_write.proofs.lists.put_lists.Tie as tie
-
-abbrev Inv-loop : tie.InvT-loop
-Inv-loop out₀ at work slots last links children-at e₀ p₀ out e p = ListsSoFar work slots last out₀ at out e p
-
-abbrev μ-loop : tie.MeasureT-loop
-μ-loop out₀ at work slots last links children-at e₀ p₀ out e p = slots - p
 
 pub put-lists-spec : {M : Type 1} → statement M
 put-lists-spec =
     tie.close
     (tie.spec
-    Inv-loop
-    μ-loop
     (λ c. search needs)
-    (λ c κs. (search needs, (search needs, refl)))
+    (λ c κs. (search needs, refl))
     (λ c. search needs)
-    (λ c. search needs)
-    (λ c. search needs)
-    (λ c. search lists-start)
-    (λ c. search needs)
-    (λ c. search needs)
-    (λ c. search lists-fit)
     (λ c κs. search needs)
-    (λ c. search needs)
-    (λ c. search needs)
-    (λ c κs. (search needs, (search needs, (search needs, search lists-room))))
-    (λ c. search needs)
-    (λ c. search needs)
-    (λ c. lists-next _ _ _ _ _ (c .before .before .before .before .before .before .before .before .before .before .before .before .before .before .before .before .pre .1 .1) _ _ _ (c .before .before .before .before .before .before .before .before .before .before .loop .inv) _ (c .before .before .before .before .before .before .before .put-le32 .kept .0) (c .before .before .before .before .before .before .before .put-le32 .ensures) _ _ (c .before .before .before .before .before .before .before .before .before .loop-test .taken) (c .before .before .put-list .kept .0) (c .before .before .put-list .ensures))
-    (λ c. search needs)
-    (λ c. search needs)
-    (λ c. search lists-fit)
-    (λ c κs. search needs)
-    (λ c. search needs)
-    (λ c. search lists-end))
+    (λ c. c .before .before .put-linked .kept .0)
+    (λ c. c .before .before .put-linked .ensures))
