@@ -28,7 +28,13 @@ use lxtr_spec::MAX_LISTED;
 pub const TABLE_SIZE: usize = MAX_LISTED + 1;
 
 // The codes of the labels, and their order, by falling number of keys that contain them.
-fn code_labels(keys: &[u8], labels: &[u32], guesses: &[u32], codes: &mut [u32], order: &mut [u32])
+fn code_labels(
+    keys: &[u8],
+    labels: &[u32],
+    guesses: &mut [u32],
+    codes: &mut [u32],
+    order: &mut [u32],
+)
     requires { ⌜ KeysPassed (now keys) ⌝ }
     requires { ⌜ now labels ≡ labelsUsed (pairsOf (now keys)) [] ⌝ }
     requires { ⌜ (length (now labels) ≤ maxListed) × (length (now codes) ≡ tableSize) × (length (now order) ≡ tableSize) ⌝ }
@@ -36,6 +42,7 @@ fn code_labels(keys: &[u8], labels: &[u32], guesses: &[u32], codes: &mut [u32], 
 {
     let n = labels.len();
     let mut counts = [0u32; TABLE_SIZE];
+    note_all(labels, guesses);
     count_keys(keys, labels, guesses, &mut counts);
     rank(&counts[..n], order);
     assign(&order[..n], codes);
@@ -52,7 +59,6 @@ pub fn code_map(keys: &[u8], labels: &mut [u32], codes: &mut [u32], order: &mut 
     if MAX_LISTED < n {
         return n;
     }
-    note_all(&labels[..n], &mut guesses);
-    code_labels(keys, &labels[..n], &guesses, codes, order);
+    code_labels(keys, &labels[..n], &mut guesses, codes, order);
     n
 }

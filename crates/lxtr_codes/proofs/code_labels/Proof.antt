@@ -10,6 +10,7 @@ pub code-labels-spec : {M : Type 1} → statement M
 code-labels-spec =
     tie.close
     (tie.spec
+    (λ c κs. search needs)
     (λ c. search needs)
     (λ c κs. (search needs, (search needs, (search needs, refl))))
     (λ c. search needs)
@@ -18,6 +19,7 @@ code-labels-spec =
     (λ c. search needs)
     (λ c. sym (length-take-le _ _ (search needs)))
     (λ c κs. (search order-few, search order-fits))
+    (λ c. search needs)
     (λ c. search needs)
     (λ c. search needs)
     (λ c. search tables-made))
