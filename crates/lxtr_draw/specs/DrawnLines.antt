@@ -1,22 +1,19 @@
--- The lines of a drawing: each return of the code is a case of the definition, with the numbers that were read.
+-- The lines of a drawing, and which of them are drawn: each return of the code is a case of the definition, with what was read.
 use Prim.Native.Nat.{ℕ, _-_, _≤_, _<_}
 use native.Mathlib.Omega.{arith}
 use mathlib.Core.Path.{_≡_, refl, sym, ap, _∙_}
 use mathlib.Core.Logic.{_≢_}
 use mathlib.Core.List.{List, [], _∷_}
-use mathlib.Core.Bool.{Bool, true, false, cond}
-use borrow.Author.Tests.{eq-eqb, ne-eqb, le-leb, lt-leb}
-use Rattle.lxtr_spec.specs.Image.{isLeaf, hasLeaf, valueNumber, base, parent, codeTo, child, labelCount, labelAt}
+use mathlib.Core.Bool.{Bool, true, false, not, cond}
+use lib.Dec.{ltb, eqb}
+use borrow.Author.Tests.{eq-eqb, ne-eqb, le-leb, lt-leb, lt-ltb, le-ltb}
+use Rattle.lxtr_spec.specs.Image.{slotCount, isLeaf, hasLeaf, valueNumber, base, parent, codeTo, child, labelCount, labelAt}
+use Rattle.lxtr_spec.specs.declared.Fault.{Fault}
+use Rattle.lxtr_laws.specs.Tests.{outcome, not-is-true, not-is-false, and-is-false}
 use Rattle.lxtr_command_spec.specs.Forms.{filled}
 use Rattle.lxtr_command_spec.specs.Commands.{ascii}
-use Rattle.lxtr_command_spec.specs.Drawings.{colour, slotLine, stepLine, entryLine}
-use Rattle.lxtr_text.specs.Appends.{Appended}
-
-pub two-borders : (b : List ℕ) (s : ℕ) (t : Bool) → t ≡ hasLeaf b s → t ≡ true → _≡_ {A = ℕ} 2 (cond (hasLeaf b s) 2 1)
-two-borders b s t e h = rw (sym e ∙ h) refl
-
-pub one-border : (b : List ℕ) (s : ℕ) (t : Bool) → t ≡ hasLeaf b s → t ≡ false → _≡_ {A = ℕ} 1 (cond (hasLeaf b s) 2 1)
-one-border b s t e h = rw (sym e ∙ h) refl
+use Rattle.lxtr_command_spec.specs.Drawings.{colour, slotLine, stepLine, entryLine, isWrongSlot, isWrongEntry, isDrawn, slotText, hasStep, stepText, listOf, entryText}
+use Rattle.lxtr_text.specs.Appends.{Appended, append-none}
 
 -- p is the parent, c the colour and t whether the slot is an end
 module _ (b : List ℕ) (s : ℕ) (wrong : Bool) (p c : ℕ) (parent-is : p ≡ parent b s) (colour-is : c ≡ colour wrong) (t : Bool) (leaf-is : t ≡ isLeaf b s)
@@ -55,3 +52,47 @@ pub entry-put : (b : List ℕ) (p j : ℕ) (wrong : Bool) (c t : ℕ) → c ≡ 
     → Appended line 0 (entryLine b p j wrong) l r
 unfolding entryLine
 entry-put b p j wrong c t e f line l r q = rw (entryLine, sym e, sym f) q
+
+-- ---- what is drawn
+
+-- a test of a fault is that of its case
+pub slot-case : (f g : Fault) (s : ℕ) (t : Bool) → f ≡ g → t ≡ isWrongSlot g s → t ≡ isWrongSlot f s
+slot-case f g s t e h = rw e h
+
+pub entry-case : (f g : Fault) (j : ℕ) (t : Bool) → f ≡ g → t ≡ isWrongEntry g j → t ≡ isWrongEntry f j
+entry-case f g j t e h = rw e h
+
+-- t tells whether the slot is drawn
+module _ (b : List ℕ) (f : Fault) (s : ℕ) (t : Bool) (drawn-is : t ≡ isDrawn b f s) (line : List ℕ) where
+  pub slot-left-out : not t ≡ true → Appended line 0 (slotText b f s) line 0
+  unfolding slotText
+  slot-left-out h = rw (slotText, outcome t _ false drawn-is (not-is-true t .0 h)) (append-none line 0 (omega arith))
+
+  pub slot-put : not t ≡ false → (w : Bool) → w ≡ isWrongSlot f s → (l : List ℕ) (r : ℕ) → Appended line 0 (slotLine b s w) l r → Appended line 0 (slotText b f s) l r
+  unfolding slotText
+  slot-put h w e l r q = rw (slotText, outcome t _ true drawn-is (not-is-false t .0 h), sym e) q
+
+-- p is the parent, n the number of slots
+module _ (b : List ℕ) (s p : ℕ) (parent-is : p ≡ parent b s) (line : List ℕ) where
+  no-step : hasStep b s ≡ false → Appended line 0 (stepText b s) line 0
+  unfolding stepText
+  no-step e = rw (stepText, e) (append-none line 0 (omega arith))
+
+  pub no-parent : p ≡ 0 → Appended line 0 (stepText b s) line 0
+  unfolding hasStep
+  no-parent h = no-step (rw (eq-eqb (parent b s) 0 (sym parent-is ∙ h)) refl)
+
+  module _ (n : ℕ) (count-is : n ≡ slotCount b) where
+    pub parent-outside : n ≤ p → Appended line 0 (stepText b s) line 0
+    unfolding hasStep
+    parent-outside h = no-step (and-is-false (not (eqb (parent b s) 0)) (ltb (parent b s) (slotCount b)) .1 (λ _. le-ltb (parent b s) (slotCount b) (omega arith)))
+
+    pub step-put : p ≢ 0 → p < n → (l : List ℕ) (r : ℕ) → Appended line 0 (stepLine b p s) l r → Appended line 0 (stepText b s) l r
+    unfolding stepText hasStep
+    step-put some h l r q =
+        rw (stepText, hasStep, ne-eqb (parent b s) 0 (λ z. some (parent-is ∙ z)), lt-ltb (parent b s) (slotCount b) (omega arith), sym parent-is) q
+
+pub entry-drawn : (b : List ℕ) (f : Fault) (j p : ℕ) (w : Bool) → p ≡ listOf b j → w ≡ isWrongEntry f j → (line l : List ℕ) (r : ℕ)
+    → Appended line 0 (entryLine b p j w) l r → Appended line 0 (entryText b f j) l r
+unfolding entryText
+entry-drawn b f j p w e h line l r q = rw (entryText, sym e, sym h) q
