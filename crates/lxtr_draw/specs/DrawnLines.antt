@@ -2,14 +2,15 @@
 use Prim.Native.Nat.{ℕ, _-_, _≤_, _<_}
 use native.Mathlib.Omega.{arith}
 use mathlib.Core.Path.{_≡_, refl, sym, ap, _∙_}
-use mathlib.Core.Logic.{_≢_}
+use mathlib.Core.Logic.{_≢_, inl, inr}
 use mathlib.Core.List.{List, [], _∷_}
-use mathlib.Core.Bool.{Bool, true, false, not, cond}
+use mathlib.Core.Bool.{Bool, true, false, _||_, not, cond}
 use lib.Dec.{ltb, eqb}
-use borrow.Author.Tests.{eq-eqb, ne-eqb, le-leb, lt-leb, lt-ltb, le-ltb}
-use Rattle.lxtr_spec.specs.Image.{slotCount, isLeaf, hasLeaf, valueNumber, base, parent, codeTo, child, labelCount, labelAt}
+use borrow.Author.Tests.{eq-eqb, ne-eqb, le-leb, lt-leb, lt-ltb, le-ltb, eqb-false}
+use Rattle.lxtr_spec.specs.Image.{slotCount, baseWord, checkWord, isLeaf, hasLeaf, valueNumber, base, parent, codeTo, child, labelCount, labelAt}
+use Rattle.lxtr_spec.specs.Refusals.{bothZero}
 use Rattle.lxtr_spec.specs.declared.Fault.{Fault}
-use Rattle.lxtr_laws.specs.Tests.{outcome, not-is-true, not-is-false, and-is-false}
+use Rattle.lxtr_laws.specs.Tests.{outcome, or-is-true, not-is-true, not-is-false, and-is-true, and-is-false}
 use Rattle.lxtr_command_spec.specs.Forms.{filled}
 use Rattle.lxtr_command_spec.specs.Commands.{ascii}
 use Rattle.lxtr_command_spec.specs.Drawings.{colour, slotLine, stepLine, entryLine, isWrongSlot, isWrongEntry, isDrawn, slotText, hasStep, stepText, listOf, entryText}
@@ -96,3 +97,12 @@ pub entry-drawn : (b : List ℕ) (f : Fault) (j p : ℕ) (w : Bool) → p ≡ li
     → Appended line 0 (entryLine b p j w) l r → Appended line 0 (entryText b f j) l r
 unfolding entryText
 entry-drawn b f j p w e h line l r q = rw (entryText, sym e, sym h) q
+
+-- a slot to which a step is drawn holds its parent, so it is drawn too
+pub step-to-drawn : (b : List ℕ) (f : Fault) (s : ℕ) → hasStep b s ≡ true → isDrawn b f s ≡ true
+unfolding hasStep isDrawn bothZero parent
+step-to-drawn b f s e =
+    let some = eqb-false (parent b s) 0 (not-is-true (eqb (parent b s) 0) .0 (and-is-true (not (eqb (parent b s) 0)) (ltb (parent b s) (slotCount b)) .0 e .0)) in
+    let holds : eqb (checkWord b s) 0 ≡ false = ne-eqb (checkWord b s) 0 (λ z. some (rw z refl)) in
+    let zero : bothZero b s ≡ false = and-is-false (eqb (baseWord b s) 0) (eqb (checkWord b s) 0) .1 (λ _. holds) in
+    or-is-true (eqb s 1 || not (bothZero b s)) (isWrongSlot f s) .1 (inl (or-is-true (eqb s 1) (not (bothZero b s)) .1 (inr (not-is-true (bothZero b s) .1 zero))))

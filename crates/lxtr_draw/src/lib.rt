@@ -161,7 +161,7 @@ pub fn slot_text(image: &[u8], fault: Fault, s: u32, line: &mut [u8]) -> usize
     slot_line(image, s, is_wrong_slot(fault, s), line)
 }
 
-// The step to slot s, where its parent is a slot other than 0.
+// The step to slot s, where its parent is a slot other than 0. Such a slot holds something, so it is drawn too.
 pub fn step_text(image: &[u8], s: u32, line: &mut [u8]) -> usize
     requires { ⌜ Passed (now image) ⌝ }
     requires { ⌜ s < slotCount (now image) ⌝ }
@@ -177,7 +177,8 @@ pub fn step_text(image: &[u8], s: u32, line: &mut [u8]) -> usize
     step_line(image, p, s, line)
 }
 
-// The first slot in whose list entry j lies, looked for from a slot on that is not behind it: no list before it ends behind the entry.
+// The first slot in whose list entry j lies. It is looked for from a slot on that is not behind it, by the ends of the lists alone: no
+// list before its own ends behind the entry.
 pub fn list_of(image: &[u8], from: u32, j: u32) -> u32
     requires { ⌜ Passed (now image) ⌝ }
     requires { ⌜ j < childCount (now image) ⌝ }
