@@ -1,109 +1,60 @@
-// The command that draws an image as a graph for Graphviz. What a line says is decided by `lxtr_draw`.
+// The command that draws an image as a graph for Graphviz. What is drawn of a slot and of an entry is decided by `lxtr_draw`.
+ghost use mathlib.Core.Path.{_≡_};
 ghost use Prim.Native.Nat.{_<_};
 ghost use Rattle.lxtr_spec.specs.Image.{slotCount, childCount};
 ghost use Rattle.lxtr_laws.specs.Passed.{Passed};
+ghost use Rattle.lxtr_command_spec.specs.Drawings.{listOf};
 use crate::output::end;
 use crate::output::print;
 use crate::words::has_place;
 use crate::words::print_fault;
 use crate::words::print_refusal;
-use lxtr_draw::entry_line;
-use lxtr_draw::slot_line;
-use lxtr_draw::step_line;
+use lxtr_draw::entry_text;
+use lxtr_draw::list_of;
+use lxtr_draw::slot_text;
+use lxtr_draw::step_text;
 use lxtr_header::header_refusal;
-use lxtr_image::lists::offset_at;
-use lxtr_image::nodes::base_word;
-use lxtr_image::nodes::check_word;
-use lxtr_image::nodes::parent_of;
 use lxtr_image::sections::child_count;
 use lxtr_image::sections::slot_count;
 use lxtr_spec::Fault;
 use lxtr_text::LINE_ROOM;
 
-// No slot and no entry has this number.
-const NONE: u32 = 0xFFFFFFFF;
-
-// The slot at fault.
-fn wrong_slot(fault: Fault) -> u32 {
-    match fault {
-        Fault::Slot(s) => s,
-        Fault::Offset(p) => p,
-        Fault::Unlisted(s) => s,
-        Fault::Childless(s) => s,
-        Fault::RootBase => 1,
-        Fault::Unreachable(s) => s,
-        Fault::Nowhere => NONE,
-        Fault::Label(place) => NONE,
-        Fault::Entry(p, j) => NONE,
-    }
-}
-
-// The entry at fault.
-fn wrong_entry(fault: Fault) -> u32 {
-    match fault {
-        Fault::Entry(p, j) => j,
-        _ => NONE,
-    }
-}
-
-// A slot that holds something, and the step to it from its parent.
-fn draw_slot(image: &[u8], s: u32, wrong: bool)
+// A slot, and the step to it from its parent.
+fn draw_slot(image: &[u8], fault: Fault, s: u32)
     requires { ⌜ Passed (now image) ⌝ }
     requires { ⌜ s < slotCount (now image) ⌝ }
 {
-    if (s != 1) & !wrong & (base_word(image, s) == 0) & (check_word(image, s) == 0) {
-        return;
-    }
     let mut line = [0u8; LINE_ROOM];
-    let length = slot_line(image, s, wrong, &mut line);
+    let length = slot_text(image, fault, s, &mut line);
     print(&line[..length]);
-    let p = parent_of(image, s);
-    if p == 0 {
-        return;
-    }
-    if slot_count(image) <= p {
-        return;
-    }
-    let size = step_line(image, p, s, &mut line);
+    let size = step_text(image, s, &mut line);
     print(&line[..size]);
 }
 
-fn draw_slots(image: &[u8], wrong: u32)
+fn draw_slots(image: &[u8], fault: Fault)
     requires { ⌜ Passed (now image) ⌝ }
 {
     let slots = slot_count(image);
     let mut s: u32 = 0;
     while s < slots {
-        draw_slot(image, s, s == wrong);
+        draw_slot(image, fault, s);
         s += 1;
     }
 }
 
-fn draw_entry(image: &[u8], p: u32, j: u32, wrong: bool)
+// Entry j, which lies in the list of slot p.
+fn draw_entry(image: &[u8], fault: Fault, p: u32, j: u32)
     requires { ⌜ Passed (now image) ⌝ }
     requires { ⌜ j < childCount (now image) ⌝ }
+    requires { ⌜ p ≡ listOf (now image) j ⌝ }
 {
     let mut line = [0u8; LINE_ROOM];
-    let length = entry_line(image, p, j, wrong, &mut line);
+    let length = entry_text(image, fault, p, j, &mut line);
     print(&line[..length]);
 }
 
-// The slot from p on in whose list entry j lies, where offsets rise; so each entry is drawn once, whatever the offsets are.
-fn list_of(image: &[u8], from: u32, j: u32) -> u32
-    requires { ⌜ Passed (now image) ⌝ }
-{
-    let slots = slot_count(image);
-    let mut p = from;
-    while p < slots {
-        if j < offset_at(image, p + 1) {
-            return p;
-        }
-        p += 1;
-    }
-    p
-}
-
-fn draw_entries(image: &[u8], wrong: u32)
+// The slot of an entry is looked for from that of the entry before on.
+fn draw_entries(image: &[u8], fault: Fault)
     requires { ⌜ Passed (now image) ⌝ }
 {
     let children = child_count(image);
@@ -111,7 +62,7 @@ fn draw_entries(image: &[u8], wrong: u32)
     let mut j: u32 = 0;
     while j < children {
         p = list_of(image, p, j);
-        draw_entry(image, p, j, j == wrong);
+        draw_entry(image, fault, p, j);
         j += 1;
     }
 }
@@ -133,8 +84,8 @@ pub fn draw(image: &[u8]) {
     let fault = lxtr_fault::fault(image);
     print(b"digraph lxtr {\n  rankdir=LR;\n  node [shape=box];\n");
     if header_refusal(image) == 0 {
-        draw_slots(image, wrong_slot(fault));
-        draw_entries(image, wrong_entry(fault));
+        draw_slots(image, fault);
+        draw_entries(image, fault);
     }
     if refusal == 0 {
         print(b"}\n");

@@ -1,4 +1,6 @@
--- The lines of a drawing, by their cases. DrawnWhole says that they are not cut, and DrawingExamples is a table of examples.
-pub mod Lines
+-- The code's returns by the cases of the definitions (DrawnLines), and in whose list an entry lies (EntryLists). DrawnWhole says that no
+-- line is cut, and DrawingExamples is a table of examples.
+pub mod DrawnLines
+pub mod EntryLists
 pub mod DrawnWhole
 pub mod DrawingExamples

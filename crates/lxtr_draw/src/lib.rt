@@ -1,20 +1,25 @@
-// The lines of an image's drawing, in the language of Graphviz, put at the front of a lent line.
+// An image's drawing, in the language of Graphviz: what is drawn of each slot and each entry, put at the front of a lent line.
 ghost use mathlib.Core.Path.{_≡_};
 ghost use mathlib.Core.Bool.{cond};
-ghost use Prim.Native.Nat.{_<_};
+ghost use Prim.Native.Nat.{_≤_, _<_};
 ghost use Rattle.lxtr_spec.specs.Image.{slotCount, childCount, hasLeaf};
 ghost use Rattle.lxtr_laws.specs.Passed.{Whole, Passed};
-ghost use Rattle.lxtr_command_spec.specs.Drawings.{colour, slotLine, stepLine, entryLine};
+ghost use Rattle.lxtr_command_spec.specs.Drawings.{colour, slotLine, stepLine, entryLine, isWrongSlot, isWrongEntry, isDrawn, slotText, stepText, listOf, entryText};
 ghost use Rattle.lxtr_text.specs.Appends.{Appended};
 use lxtr_image::code_map::label_at;
 use lxtr_image::code_map::label_count;
 use lxtr_image::joining::code_to;
 use lxtr_image::lists::child_at;
+use lxtr_image::lists::offset_at;
 use lxtr_image::nodes::base_of;
+use lxtr_image::nodes::base_word;
+use lxtr_image::nodes::check_word;
 use lxtr_image::nodes::has_leaf;
 use lxtr_image::nodes::is_leaf;
 use lxtr_image::nodes::parent_of;
 use lxtr_image::nodes::value_number;
+use lxtr_image::sections::slot_count;
+use lxtr_spec::Fault;
 use lxtr_text::forms::fill;
 
 // What is wrong is red, all else a dark grey.
@@ -40,7 +45,7 @@ fn borders(image: &[u8], s: u32) -> u32
 }
 
 // A slot with its base or value and its parent.
-pub fn slot_line(image: &[u8], s: u32, wrong: bool, line: &mut [u8]) -> usize
+fn slot_line(image: &[u8], s: u32, wrong: bool, line: &mut [u8]) -> usize
     requires { ⌜ Whole (now image) ⌝ }
     requires { ⌜ s < slotCount (now image) ⌝ }
     ensures { λ r. ⌜ Appended (now (line .entry)) 0 (slotLine (now (image .entry)) s wrong) (now (line .exit)) r ⌝ }
@@ -65,7 +70,7 @@ pub fn slot_line(image: &[u8], s: u32, wrong: bool, line: &mut [u8]) -> usize
 }
 
 // The step from slot p to slot s, with its label.
-pub fn step_line(image: &[u8], p: u32, s: u32, line: &mut [u8]) -> usize
+fn step_line(image: &[u8], p: u32, s: u32, line: &mut [u8]) -> usize
     requires { ⌜ Passed (now image) ⌝ }
     requires { ⌜ p < slotCount (now image) ⌝ }
     ensures { λ r. ⌜ Appended (now (line .entry)) 0 (stepLine (now (image .entry)) p s) (now (line .exit)) r ⌝ }
@@ -86,7 +91,7 @@ pub fn step_line(image: &[u8], p: u32, s: u32, line: &mut [u8]) -> usize
 }
 
 // Entry j of the children, in the list of slot p.
-pub fn entry_line(image: &[u8], p: u32, j: u32, wrong: bool, line: &mut [u8]) -> usize
+fn entry_line(image: &[u8], p: u32, j: u32, wrong: bool, line: &mut [u8]) -> usize
     requires { ⌜ Whole (now image) ⌝ }
     requires { ⌜ j < childCount (now image) ⌝ }
     ensures { λ r. ⌜ Appended (now (line .entry)) 0 (entryLine (now (image .entry)) p j wrong) (now (line .exit)) r ⌝ }
@@ -98,4 +103,101 @@ pub fn entry_line(image: &[u8], p: u32, j: u32, wrong: bool, line: &mut [u8]) ->
         &[p, child, j, tint, tint],
         line,
     )
+}
+
+// Whether slot s is the one at fault.
+fn is_wrong_slot(fault: Fault, s: u32) -> bool
+    ensures { λ r. ⌜ r ≡ isWrongSlot fault s ⌝ }
+{
+    match fault {
+        Fault::Slot(t) => s == t,
+        Fault::Offset(t) => s == t,
+        Fault::Unlisted(t) => s == t,
+        Fault::Childless(t) => s == t,
+        Fault::RootBase => s == 1,
+        Fault::Unreachable(t) => s == t,
+        Fault::Nowhere => false,
+        Fault::Label(_) => false,
+        Fault::Entry(_, _) => false,
+    }
+}
+
+// Whether entry j is the one at fault.
+fn is_wrong_entry(fault: Fault, j: u32) -> bool
+    ensures { λ r. ⌜ r ≡ isWrongEntry fault j ⌝ }
+{
+    match fault {
+        Fault::Entry(_, i) => j == i,
+        Fault::Nowhere => false,
+        Fault::Label(_) => false,
+        Fault::Slot(_) => false,
+        Fault::Offset(_) => false,
+        Fault::Unlisted(_) => false,
+        Fault::Childless(_) => false,
+        Fault::RootBase => false,
+        Fault::Unreachable(_) => false,
+    }
+}
+
+// Whether slot s is slot 1, holds something or is at fault.
+fn is_drawn(image: &[u8], fault: Fault, s: u32) -> bool
+    requires { ⌜ Whole (now image) ⌝ }
+    requires { ⌜ s < slotCount (now image) ⌝ }
+    ensures { λ r. ⌜ r ≡ isDrawn (now (image .entry)) fault s ⌝ }
+{
+    let empty = (base_word(image, s) == 0) & (check_word(image, s) == 0);
+    (s == 1) | !empty | is_wrong_slot(fault, s)
+}
+
+// What is drawn of slot s itself, which may be nothing.
+pub fn slot_text(image: &[u8], fault: Fault, s: u32, line: &mut [u8]) -> usize
+    requires { ⌜ Whole (now image) ⌝ }
+    requires { ⌜ s < slotCount (now image) ⌝ }
+    ensures { λ r. ⌜ Appended (now (line .entry)) 0 (slotText (now (image .entry)) fault s) (now (line .exit)) r ⌝ }
+{
+    if !is_drawn(image, fault, s) {
+        return 0;
+    }
+    slot_line(image, s, is_wrong_slot(fault, s), line)
+}
+
+// The step to slot s, where its parent is a slot other than 0. Such a slot holds something, so it is drawn too.
+pub fn step_text(image: &[u8], s: u32, line: &mut [u8]) -> usize
+    requires { ⌜ Passed (now image) ⌝ }
+    requires { ⌜ s < slotCount (now image) ⌝ }
+    ensures { λ r. ⌜ Appended (now (line .entry)) 0 (stepText (now (image .entry)) s) (now (line .exit)) r ⌝ }
+{
+    let p = parent_of(image, s);
+    if p == 0 {
+        return 0;
+    }
+    if slot_count(image) <= p {
+        return 0;
+    }
+    step_line(image, p, s, line)
+}
+
+// The first slot in whose list entry j lies. It is looked for from a slot on that is not behind it, by the ends of the lists alone: no
+// list before its own ends behind the entry.
+pub fn list_of(image: &[u8], from: u32, j: u32) -> u32
+    requires { ⌜ Passed (now image) ⌝ }
+    requires { ⌜ j < childCount (now image) ⌝ }
+    requires { ⌜ from ≤ listOf (now image) j ⌝ }
+    ensures { λ r. ⌜ r ≡ listOf (now (image .entry)) j ⌝ }
+{
+    let mut p = from;
+    while offset_at(image, p + 1) <= j {
+        p += 1;
+    }
+    p
+}
+
+// Entry j of the children; p is the slot in whose list it lies.
+pub fn entry_text(image: &[u8], fault: Fault, p: u32, j: u32, line: &mut [u8]) -> usize
+    requires { ⌜ Whole (now image) ⌝ }
+    requires { ⌜ j < childCount (now image) ⌝ }
+    requires { ⌜ p ≡ listOf (now image) j ⌝ }
+    ensures { λ r. ⌜ Appended (now (line .entry)) 0 (entryText (now (image .entry)) fault j) (now (line .exit)) r ⌝ }
+{
+    entry_line(image, p, j, is_wrong_entry(fault, j), line)
 }

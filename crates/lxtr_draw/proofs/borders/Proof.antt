@@ -1,6 +1,6 @@
 -- The two returns are the cases of the definition.
+use mathlib.Core.Path.{sym, _∙_}
 use borrow.Author.Needs.{needs}
-use Rattle.lxtr_draw.specs.Lines.{two-borders, one-border}
 use Rattle.lxtr_draw.proofs.borders.Statement.{statement}
 use Rattle.lxtr_draw.proofs.borders.Tie as tie
 
@@ -9,5 +9,5 @@ borders-spec =
     tie.close
     (tie.spec
     (λ c κs. search needs)
-    (λ c. search two-borders)
-    (λ c. search one-border))
+    (λ c. rw (sym (c .before .has-leaf .ensures) ∙ c .if1 .taken))
+    (λ c. rw (sym (c .before .has-leaf .ensures) ∙ c .if1 .left)))

@@ -1,7 +1,7 @@
 -- The form is that of the definition.
 use borrow.Author.Needs.{needs}
 use Rattle.lxtr_command_spec.specs.Commands.{asciiFrom, ascii}
-use Rattle.lxtr_draw.specs.Lines.{entry-put}
+use Rattle.lxtr_draw.specs.DrawnLines.{entry-put}
 use Rattle.lxtr_draw.proofs.entry_line.Statement.{statement}
 use Rattle.lxtr_draw.proofs.entry_line.Tie as tie
 

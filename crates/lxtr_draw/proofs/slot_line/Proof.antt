@@ -1,7 +1,7 @@
 -- The form is that of the definition, for an end and for any other slot.
 use borrow.Author.Needs.{needs}
 use Rattle.lxtr_command_spec.specs.Commands.{asciiFrom, ascii}
-use Rattle.lxtr_draw.specs.Lines.{end-line, inner-line}
+use Rattle.lxtr_draw.specs.DrawnLines.{end-line, inner-line}
 use Rattle.lxtr_draw.proofs.slot_line.Statement.{statement}
 use Rattle.lxtr_draw.proofs.slot_line.Tie as tie
 

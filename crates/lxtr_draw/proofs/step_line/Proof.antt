@@ -1,7 +1,7 @@
 -- The form is that of the definition, by the code.
 use borrow.Author.Needs.{needs}
 use Rattle.lxtr_command_spec.specs.Commands.{asciiFrom, ascii}
-use Rattle.lxtr_draw.specs.Lines.{end-step, listed-step, unlisted-step}
+use Rattle.lxtr_draw.specs.DrawnLines.{end-step, listed-step, unlisted-step}
 use Rattle.lxtr_draw.proofs.step_line.Statement.{statement}
 use Rattle.lxtr_draw.proofs.step_line.Tie as tie
 

@@ -1,17 +1,19 @@
--- The loop goes up to the number of children.
+-- The loop goes up to the number of children. The slot is not behind that of the entry that comes next.
 use borrow.Author.Needs.{needs}
-use Prim.Native.Nat.{_-_}
+use Prim.Native.Nat.{_-_, _≤_}
 use mathlib.Core.Path.{_≡_}
 use native.Mathlib.Omega.{arith}
 use Rattle.lxtr_spec.specs.Image.{childCount}
+use Rattle.lxtr_command_spec.specs.Drawings.{listOf}
+use Rattle.lxtr_draw.specs.EntryLists.{list-on}
 use Rattle.lxtr.proofs.draw.draw_entries.Statement.{statement}
 use Rattle.lxtr.proofs.draw.draw_entries.Tie as tie
 
 abbrev Inv-loop : tie.InvT-loop
-Inv-loop image wrong children p₀ j₀ p j = children ≡ childCount image
+Inv-loop image fault children p₀ j₀ p j = (children ≡ childCount image) × (p ≤ listOf image j)
 
 abbrev μ-loop : tie.MeasureT-loop
-μ-loop image wrong children p₀ j₀ p j = children - j
+μ-loop image fault children p₀ j₀ p j = children - j
 
 pub draw-entries-spec : {M : Type 1} → statement M
 draw-entries-spec =
@@ -20,10 +22,10 @@ draw-entries-spec =
     Inv-loop
     μ-loop
     (λ c κs. search needs)
-    (λ c. search needs)
+    (λ c. (search needs, omega arith))
     (λ c κs. search needs)
-    (λ c κs. (search needs, omega arith))
+    (λ c κs. search needs)
     (λ c. search needs)
     (λ c. omega arith)
-    (λ c. search needs)
+    (λ c. (search needs, search list-on))
     (λ c. search needs))

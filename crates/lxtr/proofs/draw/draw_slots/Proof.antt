@@ -8,10 +8,10 @@ use Rattle.lxtr.proofs.draw.draw_slots.Statement.{statement}
 use Rattle.lxtr.proofs.draw.draw_slots.Tie as tie
 
 abbrev Inv-loop : tie.InvT-loop
-Inv-loop image wrong slots s₀ s = slots ≡ slotCount image
+Inv-loop image fault slots s₀ s = slots ≡ slotCount image
 
 abbrev μ-loop : tie.MeasureT-loop
-μ-loop image wrong slots s₀ s = slots - s
+μ-loop image fault slots s₀ s = slots - s
 
 pub draw-slots-spec : {M : Type 1} → statement M
 draw-slots-spec =
