@@ -15,6 +15,13 @@ Inv-loop image count last₀ before₀ i₀ last before i = (count ≡ labelCoun
 abbrev μ-loop : tie.MeasureT-loop
 μ-loop image count last₀ before₀ i₀ last before i = count - i
 
+-- the places of the code that a fact is taken from: after the test, and the loop
+abbrev tested : tie.After-before3 Inv-loop μ-loop → tie.After-label-wrong Inv-loop μ-loop
+tested c = c .before .before .before
+
+abbrev loop : tie.After-label-wrong Inv-loop μ-loop → tie.At-loop Inv-loop μ-loop
+loop c = c .before .before .before .before
+
 pub first-wrong-label-spec : {M : Type 1} → statement M
 first-wrong-label-spec =
     tie.close
@@ -31,7 +38,7 @@ first-wrong-label-spec =
     (λ c. search scan-first)
     (λ c. search needs)
     (λ c. search needs)
-    (λ c κs. (search needs, (search needs, c .before .before .before .before .before .before .before .loop .inv .2)))
+    (λ c κs. (search needs, (search needs, loop (tested c) .loop .inv .2)))
     (λ c. search needs)
     (λ c. search needs)
     (λ c. (search needs, search scan-next, search needs))

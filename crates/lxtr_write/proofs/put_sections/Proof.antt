@@ -31,5 +31,6 @@ put-sections-spec =
     let lists = map .before .before .before .before in
     let nodes = lists .before .before .before .before in
     let header = nodes .before .before .before .before in
-    let s = header .before .before .before .before .before .before .pre in
+    let placed = header .before .before in
+    let s = placed .before .before .before .before .pre in
     image-put _ _ _ _ _ (s .0) (s .1 .1 .0) _ _ _ _ _ (s .1 .1 .1) (header .put-header .ensures) (nodes .put-nodes .ensures) (lists .put-lists .ensures) (map .put-map .ensures)))
