@@ -1,7 +1,5 @@
 -- What the placing's code computes, turn by turn. The public contracts use none of it; those of private functions use Groups
 -- and the definitions that open Settling, Codes, Children and Within.
-pub mod Slots
-pub mod Fitting
 pub mod Settling
 pub mod Groups
 pub mod Runs

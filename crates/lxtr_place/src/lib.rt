@@ -1,6 +1,4 @@
 // Places the keys of a key list by first fit, as slots in lent work: document 01, "Building".
-pub mod slots; // the slots of lent work
-mod fitting; // the smallest base that fits
 mod groups; // the keys that pass a slot
 mod codes; // the codes of a group's children
 mod settling; // a slot's own words, and its children's
@@ -18,9 +16,9 @@ ghost use Rattle.lxtr_build_laws.specs.Work.{Cleared, placedAs};
 ghost use Rattle.lxtr_place.specs.AllKeys.{StartsPut};
 use crate::groups::Group;
 use crate::placing::place;
-use crate::slots::slots_in;
 use lxtr_codes::guesses::GUESS_COUNT;
 use lxtr_codes::guesses::note_all;
+use lxtr_fit::slots::slots_in;
 use lxtr_keys::KEYS_AT;
 use lxtr_keys::key_count;
 use lxtr_keys::next_key;

@@ -7,7 +7,7 @@ ghost use Rattle.lxtr_spec.specs.Joining.{slotUnder};
 ghost use Rattle.lxtr_spec.specs.Placing;
 ghost use Rattle.lxtr_spec.specs.Placing.{putParent, putChild, putChildren};
 ghost use Rattle.lxtr_place.specs.Settling.{ChildrenInside, settledAs};
-use crate::fitting::first_fit;
+use lxtr_fit::fitting::first_fit;
 use lxtr_image::joining::slot_under;
 use lxtr_image::nodes::TOP_BIT;
 use lxtr_spec::Found;

@@ -22,8 +22,8 @@ use lxtr_bytes::heads::HEAD_LENGTH;
 use lxtr_bytes::heads::put_head;
 use lxtr_bytes::numbers::put_be32;
 use lxtr_bytes::numbers::put_le32;
+use lxtr_fit::slots::slots_in;
 use lxtr_image::sections::HEADER_LENGTH;
-use lxtr_place::slots::slots_in;
 use lxtr_spec::Built;
 use lxtr_spec::refusals::OUT_TOO_SMALL;
 

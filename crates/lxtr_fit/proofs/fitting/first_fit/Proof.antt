@@ -2,9 +2,9 @@
 use borrow.Author.Needs.{needs}
 use Prim.Native.Nat.{_-_}
 use Rattle.lxtr_spec.specs.Placing.{baseCount}
-use Rattle.lxtr_place.specs.Fitting.{NoFitSoFar, base-start, base-found, base-next, base-none}
-use Rattle.lxtr_place.proofs.fitting.first_fit.Statement.{statement}
-use Rattle.lxtr_place.proofs.fitting.first_fit.Tie as tie
+use Rattle.lxtr_fit.specs.Fitting.{NoFitSoFar, base-start, base-found, base-next, base-none}
+use Rattle.lxtr_fit.proofs.fitting.first_fit.Statement.{statement}
+use Rattle.lxtr_fit.proofs.fitting.first_fit.Tie as tie
 
 abbrev Inv-loop : tie.InvT-loop
 Inv-loop work slots codes base₀ base = NoFitSoFar slots work codes base

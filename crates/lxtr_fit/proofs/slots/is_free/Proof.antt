@@ -1,8 +1,8 @@
 -- Outside the slots from 2 up the answer is no; inside, the check decides.
 use borrow.Author.Needs.{needs}
-use Rattle.lxtr_place.specs.Slots.{check-inside, free-outside, free-inside}
-use Rattle.lxtr_place.proofs.slots.is_free.Statement.{statement}
-use Rattle.lxtr_place.proofs.slots.is_free.Tie as tie
+use Rattle.lxtr_fit.specs.FreeSlots.{check-inside, free-outside, free-inside}
+use Rattle.lxtr_fit.proofs.slots.is_free.Statement.{statement}
+use Rattle.lxtr_fit.proofs.slots.is_free.Tie as tie
 
 pub is-free-spec : {M : Type 1} → statement M
 is-free-spec =

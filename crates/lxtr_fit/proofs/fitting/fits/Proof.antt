@@ -2,9 +2,9 @@
 use borrow.Author.Needs.{needs}
 use Prim.Native.Nat.{_-_}
 use lib.ListN.{length}
-use Rattle.lxtr_place.specs.Fitting.{FitsSoFar, fits-start, fits-next, fits-fails, fits-whole}
-use Rattle.lxtr_place.proofs.fitting.fits.Statement.{statement}
-use Rattle.lxtr_place.proofs.fitting.fits.Tie as tie
+use Rattle.lxtr_fit.specs.Fitting.{FitsSoFar, fits-start, fits-next, fits-fails, fits-whole}
+use Rattle.lxtr_fit.proofs.fitting.fits.Statement.{statement}
+use Rattle.lxtr_fit.proofs.fitting.fits.Tie as tie
 
 abbrev Inv-loop : tie.InvT-loop
 Inv-loop work slots codes base j₀ j = FitsSoFar slots work codes base j
