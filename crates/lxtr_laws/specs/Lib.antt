@@ -1,5 +1,5 @@
 -- Facts about the definitions of `lxtr_spec`, each stated once. Of these a reader of contracts meets the three records of Passed,
--- and in private functions of `lxtr_complete` Accepted of Facts.
+-- in private functions of `lxtr_complete` Accepted of Facts, and, of sorted tables, Sorted and placeBy of OrderedLists.
 pub mod Tests
 pub mod Ranges
 pub mod Firsts
