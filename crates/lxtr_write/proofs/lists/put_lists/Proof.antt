@@ -11,6 +11,6 @@ put-lists-spec =
     (λ c. search needs)
     (λ c κs. (search needs, refl))
     (λ c. search needs)
-    (λ c κs. search needs)
+    (λ c κs. (search needs, (search needs, (search needs, search needs))))
     (λ c. c .before .before .put-linked .kept .0)
     (λ c. c .before .before .put-linked .ensures))
