@@ -68,7 +68,14 @@ fn put_list(
 }
 
 // Writes the offsets from a place on, and behind them the lists of all slots, as the links give them.
-fn put_linked(out: &mut [u8], at: usize, work: &[u32], slots: usize, last: u32, links: &[u16])
+fn put_linked(
+    out: &mut [u8],
+    at: usize,
+    work: &[u32],
+    slots: usize,
+    last: u32,
+    links: &[u16; LINK_COUNT],
+)
     requires { ⌜ Slots (now work) slots ⌝ }
     requires { ⌜ Linked (now work) slots last slots (now links) ⌝ }
     requires { ⌜ length (childrenIn (now work) slots last) ≤ slots ⌝ }

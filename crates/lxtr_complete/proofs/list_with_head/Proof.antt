@@ -10,7 +10,7 @@ unfolding completionAnswer
 list-with-head-spec =
     tie.close
     (tie.spec
-    (λ c κs. search needs)
+    (λ c κs. (search needs, search needs))
     (λ c. search count-fits)
     (λ c κs. search needs)
     (λ c. search needs)

@@ -20,5 +20,5 @@ place-all-spec =
     (λ c. search needs)
     (λ c. search needs)
     (λ c κs. search all-called)
-    (λ c. search needs)
+    (λ c. c .before .before .before .place .kept .1 .1 .1 .1 .1 .1 .0)
     (λ c. search all-placed))

@@ -23,7 +23,7 @@ put-fitting-spec =
     (λ c.
     let s = c .before .before .before .before .before in
     image-short _ _ (omega (arith, image-length _ _ _ (s .args .labels .now) (s .args .order .now) (s .pre .0) (s .pre .1 .1))))
-    (λ c κs. search needs)
+    (λ c κs. (search needs, (search needs, (search needs, search needs))))
     (λ c. search needs)
     (λ c. search needs)
     (λ c. search (image-fits, image-length)))

@@ -26,7 +26,7 @@ put-labels-spec =
     (λ c. (search needs, search needs, search (words-start big)))
     (λ c. search needs)
     (λ c. search needs)
-    (λ c κs. search needs)
+    (λ c κs. (search needs, search needs))
     (λ c κs. search needs)
     (λ c. search needs)
     (λ c. search needs)

@@ -21,10 +21,10 @@ put-sections-spec =
     (λ c. search needs)
     (λ c. search needs)
     (λ c κs. search needs)
-    (λ c κs. search needs)
+    (λ c κs. (search needs, search needs))
     (λ c. search needs)
-    (λ c κs. search needs)
-    (λ c κs. search needs)
+    (λ c κs. (search needs, (search needs, search needs)))
+    (λ c κs. (search needs, search needs))
     (λ c. search needs)
     (λ c.
     let map = c .before .before in

@@ -12,7 +12,7 @@ list-end-spec =
     tie.close
     (tie.spec
     (λ c. (search end-none, search kept-none))
-    (λ c κs. search needs)
+    (λ c κs. (search needs, search needs))
     (λ c κs. (search accepted-whole, search (place-below, end-place)))
     (λ c κs. (search accepted-whole, search (child-below, end-place)))
     (λ c. search needs)

@@ -10,7 +10,7 @@ unfolding maxLabels
 below-spec =
     tie.close
     (tie.spec
-    (λ c κs. search needs)
+    (λ c κs. (search needs, (search needs, search needs)))
     (λ c κs. search needs)
     (λ c. search needs)
     (λ c. (search below-group, (search below-started, (search needs, search below-is)))))

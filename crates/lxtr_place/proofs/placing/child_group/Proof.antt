@@ -15,5 +15,5 @@ child-group-spec =
     (λ c. search needs)
     (λ c. search needs)
     (λ c. search needs)
-    (λ c κs. search needs)
+    (λ c κs. (search needs, (search needs, (search needs, search needs))))
     (λ c. (search needs, (search needs, (search needs, search needs)))))

@@ -9,7 +9,7 @@ pub settle-group-spec : {M : Type 1} → statement M
 settle-group-spec =
     tie.close
     (tie.spec
-    (λ c κs. search needs)
+    (λ c κs. (search needs, search needs))
     (λ c κs. (search needs, (search needs, search value-small)))
     (λ c. search needs)
     (λ c. search settle-as))

@@ -8,9 +8,7 @@ pub put-lists-spec : {M : Type 1} → statement M
 put-lists-spec =
     tie.close
     (tie.spec
-    (λ c. search needs)
     (λ c κs. (search needs, refl))
-    (λ c. search needs)
-    (λ c κs. search needs)
+    (λ c κs. (search needs, (search needs, (search needs, search needs))))
     (λ c. c .before .before .put-linked .kept .0)
     (λ c. c .before .before .put-linked .ensures))
