@@ -1,0 +1,113 @@
+// The arrays that the program lends, and reading and filling them without leaving them. Arrays are lent as arrays: no proof then has to
+// count their elements.
+
+// Room for the script, for an image and for the bytes of a line.
+pub const SCRIPT_ROOM: usize = 65536;
+
+pub const ROOM: usize = 32768;
+
+// What is lent at most to the builder, and to completion.
+pub const WORK_WORDS: usize = 16384;
+
+pub const OUTPUT_ROOM: usize = 147480;
+
+pub const LISTING_ROOM: usize = 300;
+
+// What fills them before a call.
+pub const FILLING_WORD: u32 = 7;
+
+pub const FILLING_BYTE: u8 = 0xEE;
+
+// The byte at a place, or 0 past the end.
+pub fn byte_at(bytes: &[u8], at: usize) -> u8 {
+    if at < bytes.len() {
+        return bytes[at];
+    }
+    0
+}
+
+// The first n bytes, or all if there are fewer.
+pub fn front<'a>(bytes: &'a [u8], n: usize) -> &'a [u8] {
+    if n < bytes.len() {
+        return &bytes[..n];
+    }
+    bytes
+}
+
+// The bytes from a place on; all if there are fewer.
+fn rest<'a>(bytes: &'a [u8], from: usize) -> &'a [u8] {
+    if from < bytes.len() {
+        return &bytes[from..];
+    }
+    bytes
+}
+
+// The bytes between two places.
+pub fn part<'a>(bytes: &'a [u8], from: usize, to: usize) -> &'a [u8] {
+    if to <= from {
+        return front(bytes, 0);
+    }
+    rest(front(bytes, to), from)
+}
+
+// The place behind one, if that is not past the end.
+pub fn behind(bytes: &[u8], at: usize) -> usize {
+    if at < bytes.len() {
+        return at + 1;
+    }
+    at
+}
+
+// Where the byte stands next, or the end.
+pub fn find(bytes: &[u8], from: usize, byte: u8) -> usize {
+    let mut i = from;
+    while i < bytes.len() {
+        if bytes[i] == byte {
+            return i;
+        }
+        i += 1;
+    }
+    i
+}
+
+// Puts a byte at a place, and answers the next place, if there is room.
+pub fn push(bytes: &mut [u8; ROOM], at: usize, byte: u8) -> usize {
+    if at < ROOM {
+        bytes[at] = byte;
+        return at + 1;
+    }
+    at
+}
+
+// Puts bytes at a place, and answers the next place.
+pub fn put_bytes(to: &mut [u8; ROOM], at: usize, from: &[u8]) -> usize {
+    let mut next = at;
+    let mut i: usize = 0;
+    while i < from.len() {
+        next = push(to, next, from[i]);
+        i += 1;
+    }
+    next
+}
+
+// Whether the bytes from a place on are as they were filled.
+pub fn is_left(out: &[u8; OUTPUT_ROOM], from: usize) -> bool {
+    let mut same = true;
+    let mut i: usize = 0;
+    while i < OUTPUT_ROOM {
+        same = same & ((i < from) | (out[i] == FILLING_BYTE));
+        i += 1;
+    }
+    same
+}
+
+// Whether the first words, as many as the count says, are the same as one, and no others are.
+pub fn words_are(work: &[u32; WORK_WORDS], count: usize, word: u32) -> bool {
+    let mut same = true;
+    let mut i: usize = 0;
+    while i < WORK_WORDS {
+        same = same & ((work[i] == word) == (i < count));
+        i += 1;
+    }
+    same
+}
