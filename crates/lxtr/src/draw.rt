@@ -2,11 +2,6 @@
 ghost use Prim.Native.Nat.{_<_};
 ghost use Rattle.lxtr_spec.specs.Image.{slotCount, childCount};
 ghost use Rattle.lxtr_laws.specs.Passed.{Passed};
-use crate::output::end;
-use crate::output::print;
-use crate::words::has_place;
-use crate::words::print_fault;
-use crate::words::print_refusal;
 use lxtr_draw::entry_line;
 use lxtr_draw::slot_line;
 use lxtr_draw::step_line;
@@ -17,8 +12,13 @@ use lxtr_image::nodes::check_word;
 use lxtr_image::nodes::parent_of;
 use lxtr_image::sections::child_count;
 use lxtr_image::sections::slot_count;
+use lxtr_messages::end;
+use lxtr_messages::has_place;
+use lxtr_messages::print_fault;
+use lxtr_messages::print_refusal;
 use lxtr_spec::Fault;
 use lxtr_text::LINE_ROOM;
+use texts::print;
 
 // No slot and no entry has this number.
 const NONE: u32 = 0xFFFFFFFF;

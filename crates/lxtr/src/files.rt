@@ -1,17 +1,20 @@
 // Files read into lent room and written whole. What the system refuses is told on standard error, with its reason.
 ghost use Prim.Native.Nat.{_≤_};
 ghost use lib.ListN.{length};
-use crate::output::end;
-use crate::output::printed;
-use crate::output::say;
 use crate::rooms::FILE_ROOM;
 use crate::rooms::LARGEST_FILE;
+use lxtr_messages::FAILED;
+use lxtr_messages::LARGE_FILE;
+use lxtr_messages::REFUSED;
+use lxtr_messages::printed;
+use lxtr_messages::say;
+use lxtr_messages::tell;
 use lxtr_text::joined;
 
 // Tells what failed, with the system's reason.
 pub fn fail(what: &[u8]) {
     os::fail(what);
-    end(b"failed");
+    say(FAILED);
 }
 
 // Reads a file to its end; answers how many bytes it has, and whether that is the whole file. If not, it is told why: the file is too
@@ -22,11 +25,8 @@ fn read_all(fd: i32, path: &[u8], room: &mut [u8; FILE_ROOM], is_whole: &mut boo
     *is_whole = false;
     let size = io::read_full(fd, room);
     if size == FILE_ROOM {
-        say(
-            b"the file has more than % bytes, the most that an image has\n",
-            &[printed(LARGEST_FILE)],
-        );
-        end(b"refused");
+        tell(LARGE_FILE, printed(LARGEST_FILE), 0);
+        say(REFUSED);
         return size;
     }
     let mut more = [0u8; 1];

@@ -2,14 +2,28 @@
 ghost use mathlib.Core.Path.{_≡_};
 ghost use mathlib.Core.Bool.{true};
 ghost use Rattle.lxtr_text.specs.Records.{isWholeRecord};
-use crate::output::end;
-use crate::output::print;
-use crate::output::printed;
-use crate::output::say;
 use crate::rooms::LISTING_ROOM;
-use crate::words::refuse;
-use crate::words::refuse_at;
 use lxtr_complete::HEAD_LENGTH;
+use lxtr_messages::ABSENT;
+use lxtr_messages::ABSENT_IN_REFUSED;
+use lxtr_messages::ACCEPTED;
+use lxtr_messages::FOUND;
+use lxtr_messages::LISTED;
+use lxtr_messages::LONG_QUERY;
+use lxtr_messages::LONGER;
+use lxtr_messages::MORE_KEYS;
+use lxtr_messages::NO_KEY;
+use lxtr_messages::NO_LONGER;
+use lxtr_messages::NO_VALUE;
+use lxtr_messages::ONLY_LONGER;
+use lxtr_messages::PAIRS;
+use lxtr_messages::STOPPED;
+use lxtr_messages::VALUE;
+use lxtr_messages::printed;
+use lxtr_messages::refuse;
+use lxtr_messages::refuse_at;
+use lxtr_messages::say;
+use lxtr_messages::tell;
 use lxtr_spec::Found;
 use lxtr_spec::LENGTH_COUNT;
 use lxtr_spec::MAX_LABELS;
@@ -19,12 +33,13 @@ use lxtr_text::is_whole_record;
 use lxtr_text::key_line;
 use lxtr_text::prefix_line;
 use lxtr_text::record_end;
+use texts::print;
 
 pub fn check(image: &[u8]) {
     let verdict = lxtr_check::check(image);
     if verdict.refusal == 0 {
-        say(b"pairs %\n", &[verdict.pairs]);
-        end(b"accepted");
+        tell(PAIRS, verdict.pairs, 0);
+        say(ACCEPTED);
         return;
     }
     refuse_at(verdict.refusal, lxtr_check::fault(image));
@@ -43,11 +58,11 @@ fn print_word(query: &[u8]) {
 fn print_value(value: Found) -> bool {
     match value {
         Found::Is(v) => {
-            say(b"value %\n", &[v]);
+            tell(VALUE, v, 0);
             true
         }
         Found::Nothing => {
-            print(b"value none\n");
+            say(NO_VALUE);
             false
         }
     }
@@ -56,26 +71,26 @@ fn print_value(value: Found) -> bool {
 // Why a query has no value. Only of an image does a probe tell whether longer keys exist.
 fn print_absent(image: &[u8], query: &[u8]) {
     if 4 * MAX_LABELS < query.len() {
-        say(b"no key has more than % labels\n", &[printed(MAX_LABELS)]);
+        tell(LONG_QUERY, printed(MAX_LABELS), 0);
         return;
     }
     if lxtr_check::check(image).refusal != 0 {
-        print(b"it is not found; but the check refuses the image\n");
+        say(ABSENT_IN_REFUSED);
         return;
     }
     let answer = lxtr_search::probe(image, query);
     if answer.longer {
-        print(b"it is no key, but longer keys begin with it\n");
+        say(ONLY_LONGER);
     } else {
-        print(b"no key begins with it\n");
+        say(NO_KEY);
     }
 }
 
 fn end_found(is_found: bool) {
     if is_found {
-        end(b"found");
+        say(FOUND);
     } else {
-        end(b"absent");
+        say(ABSENT);
     }
 }
 
@@ -145,9 +160,9 @@ pub fn longest(image: &[u8], query: &[u8]) {
     match value {
         Found::Is(v) => {
             print_prefix(part, printed(part.len() / 4), v);
-            end(b"found");
+            say(FOUND);
         }
-        Found::Nothing => end(b"absent"),
+        Found::Nothing => say(ABSENT),
     }
 }
 
@@ -161,9 +176,9 @@ pub fn probe(image: &[u8], query: &[u8]) {
     let value = answer.value;
     let is_found = print_value(value);
     if answer.longer {
-        print(b"longer keys\n");
+        say(LONGER);
     } else {
-        print(b"longer none\n");
+        say(NO_LONGER);
     }
     end_found(is_found);
 }
@@ -202,14 +217,14 @@ fn list_in(image: &[u8], query: &[u8], listing: &mut [u8; LISTING_ROOM]) {
         refuse_at(answer.refusal, lxtr_check::fault(image));
         return;
     }
-    say(b"pairs %\n", &[answer.count]);
+    tell(PAIRS, answer.count, 0);
     print_completions(listing, answer.count);
     if answer.stopped {
-        print(b"there are more, but no room for them\n");
-        end(b"stopped");
+        say(MORE_KEYS);
+        say(STOPPED);
     } else if answer.count == 0 {
-        end(b"absent");
+        say(ABSENT);
     } else {
-        end(b"listed");
+        say(LISTED);
     }
 }

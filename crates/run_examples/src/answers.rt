@@ -36,13 +36,13 @@ use crate::rooms::FILLING_WORD;
 use crate::rooms::LISTING_ROOM;
 use crate::rooms::OUTPUT_ROOM;
 use crate::rooms::WORK_WORDS;
-use crate::rooms::front;
 use crate::rooms::is_left;
 use crate::rooms::words_are;
 use lxtr_spec::Built;
 use lxtr_spec::Completion;
 use lxtr_spec::Fault;
 use lxtr_spec::LENGTH_COUNT;
+use texts::front;
 
 // The most bytes of an image that are printed.
 const PRINTED: usize = 168;

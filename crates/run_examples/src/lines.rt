@@ -1,9 +1,9 @@
 // Reading a line of the script: the command's name, its decimal numbers, and its bytes. Bytes are written as hexadecimal numbers of two
 // digits to a byte, a space before each number; NUMBER*N stands for the number N times, NUMBER+N for N numbers that rise from it by 1.
 use crate::rooms::ROOM;
-use crate::rooms::behind;
-use crate::rooms::byte_at;
 use crate::rooms::push;
+use texts::behind;
+use texts::byte_at;
 
 // The commands, each by its name as a number: its letters are the bytes, the last lowest.
 pub const IMAGE: u64 = 0x696D616765;

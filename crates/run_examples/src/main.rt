@@ -30,17 +30,17 @@ use crate::lines::read_request;
 use crate::output::COLON;
 use crate::output::END;
 use crate::output::NOT_READ;
-use crate::output::print;
 use crate::output::say;
 use crate::rooms::ROOM;
 use crate::rooms::SCRIPT_ROOM;
-use crate::rooms::behind;
-use crate::rooms::byte_at;
-use crate::rooms::find;
-use crate::rooms::front;
-use crate::rooms::part;
 use crate::rooms::put_bytes;
 use libc::STDIN_FILENO;
+use texts::behind;
+use texts::byte_at;
+use texts::find;
+use texts::front;
+use texts::part;
+use texts::print;
 
 // Where a command puts its bytes into the image: `image` at the front, `more` behind it, `set` at a place.
 fn start(request: Request, size: usize) -> usize {
@@ -96,8 +96,8 @@ fn answer(request: Request, image: &[u8], bytes: &[u8]) {
 }
 
 fn respond(request: Request, image: &[u8], bytes: &[u8]) {
+    say(COLON);
     if request.is_read {
-        say(COLON);
         answer(request, image, bytes);
     } else {
         say(NOT_READ);

@@ -1,9 +1,8 @@
 // What the program prints. The words of all answers stand in one text: each text that a function holds makes its proof longer.
-use crate::rooms::behind;
-use crate::rooms::find;
-use crate::rooms::part;
 use libc::STDOUT_FILENO;
 use lxtr_spec::Found;
+use texts::print;
+use texts::text_at;
 
 // Places of the words in the text below.
 pub const END: u8 = 0;
@@ -69,30 +68,45 @@ pub const IN_LIST: u8 = 29;
 
 pub const LISTED: u8 = 30;
 
-pub fn print(text: &[u8]) {
-    io::write_all(STDOUT_FILENO, text);
-}
-
 pub fn print_number(n: u64) {
     io::print_decimal(STDOUT_FILENO, n);
 }
 
-// Prints one of the pieces of a text, each of which ends with a stroke.
-fn print_piece(text: &[u8], place: u8) {
-    let mut at: usize = 0;
-    let mut left = place;
-    while 0 < left {
-        at = behind(text, find(text, at, b'|'));
-        left -= 1;
-    }
-    print(part(text, at, find(text, at, b'|')));
-}
-
 pub fn say(word: u8) {
-    print_piece(
-        b"\n|: not understood\n|: |, |refused |pairs |none|, yes|, no| bytes|count |, stopped|length |, work zero|, work left|, work changed|, rest of output left|, rest of output changed| (|)||, label |, slot |, falling offsets at slot |, child |, unlisted slot |, childless slot |, base of slot |, unreachable slot | in the list of slot |:|",
+    print(text_at(
+        b"\n|\
+          not understood|\
+          : |\
+          , |\
+          refused |\
+          pairs |\
+          none|\
+          , yes|\
+          , no|\
+          \x20bytes|\
+          count |\
+          , stopped|\
+          length |\
+          , work zero|\
+          , work left|\
+          , work changed|\
+          , rest of output left|\
+          , rest of output changed|\
+          \x20(|\
+          )|\
+          |\
+          , label |\
+          , slot |\
+          , falling offsets at slot |\
+          , child |\
+          , unlisted slot |\
+          , childless slot |\
+          , base of slot |\
+          , unreachable slot |\
+          \x20in the list of slot |\
+          :|",
         word,
-    );
+    ));
 }
 
 pub fn say_number(word: u8, n: u64) {

@@ -1,5 +1,5 @@
-// The arrays that the program lends, and reading and filling them without leaving them. Arrays are lent as arrays: no proof then has to
-// count their elements.
+// The arrays that the program lends, and filling them without leaving them. They are lent as arrays: no proof then has to count their
+// elements.
 
 // Room for the script, for an image and for the bytes of a line.
 pub const SCRIPT_ROOM: usize = 65536;
@@ -17,58 +17,6 @@ pub const LISTING_ROOM: usize = 300;
 pub const FILLING_WORD: u32 = 7;
 
 pub const FILLING_BYTE: u8 = 0xEE;
-
-// The byte at a place, or 0 past the end.
-pub fn byte_at(bytes: &[u8], at: usize) -> u8 {
-    if at < bytes.len() {
-        return bytes[at];
-    }
-    0
-}
-
-// The first n bytes, or all if there are fewer.
-pub fn front<'a>(bytes: &'a [u8], n: usize) -> &'a [u8] {
-    if n < bytes.len() {
-        return &bytes[..n];
-    }
-    bytes
-}
-
-// The bytes from a place on; all if there are fewer.
-fn rest<'a>(bytes: &'a [u8], from: usize) -> &'a [u8] {
-    if from < bytes.len() {
-        return &bytes[from..];
-    }
-    bytes
-}
-
-// The bytes between two places.
-pub fn part<'a>(bytes: &'a [u8], from: usize, to: usize) -> &'a [u8] {
-    if to <= from {
-        return front(bytes, 0);
-    }
-    rest(front(bytes, to), from)
-}
-
-// The place behind one, if that is not past the end.
-pub fn behind(bytes: &[u8], at: usize) -> usize {
-    if at < bytes.len() {
-        return at + 1;
-    }
-    at
-}
-
-// Where the byte stands next, or the end.
-pub fn find(bytes: &[u8], from: usize, byte: u8) -> usize {
-    let mut i = from;
-    while i < bytes.len() {
-        if bytes[i] == byte {
-            return i;
-        }
-        i += 1;
-    }
-    i
-}
 
 // Puts a byte at a place, and answers the next place, if there is room.
 pub fn push(bytes: &mut [u8; ROOM], at: usize, byte: u8) -> usize {

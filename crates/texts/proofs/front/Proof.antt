@@ -3,8 +3,8 @@ use borrow.Author.Needs.{needs}
 use mathlib.Core.Path.{sym}
 use native.Mathlib.Omega.{arith}
 use lib.Seq.{length-take-le}
-use Rattle.run_examples.proofs.rooms.front.Statement.{statement}
-use Rattle.run_examples.proofs.rooms.front.Tie as tie
+use Rattle.texts.proofs.front.Statement.{statement}
+use Rattle.texts.proofs.front.Tie as tie
 
 pub front-spec : {M : Type 1} → statement M
 front-spec =

@@ -2,8 +2,8 @@
 use borrow.Author.Needs.{needs}
 use Prim.Native.Nat.{_-_}
 use lib.ListN.{length}
-use Rattle.run_examples.proofs.rooms.find.Statement.{statement}
-use Rattle.run_examples.proofs.rooms.find.Tie as tie
+use Rattle.texts.proofs.find.Statement.{statement}
+use Rattle.texts.proofs.find.Tie as tie
 
 abbrev Inv-loop : tie.InvT-loop
 Inv-loop bytes from byte i₀ i = Unit {0}
