@@ -1,26 +1,23 @@
 // The inspector's command: checks, searches, lists, draws and builds LXTR images in files. It calls the proved operations and prints
 // what they answer; its last line is one word, for scripts.
-mod rooms; // sizes of large arrays
-mod files; // files read and written
-mod searches; // check, exact, prefixes, longest, probe, complete
 mod makers; // build, keys
 mod draw; // draw
 
 ghost use Prim.Native.Nat.{_*_, _≤_};
 ghost use lib.ListN.{length};
 use crate::draw::draw;
-use crate::files::load;
 use crate::makers::build;
 use crate::makers::keys;
-use crate::rooms::FILE_ROOM;
-use crate::searches::check;
-use crate::searches::complete;
-use crate::searches::exact;
-use crate::searches::longest;
-use crate::searches::prefixes;
-use crate::searches::probe;
 use lxtr_arguments::command;
 use lxtr_command_spec::Command;
+use lxtr_files::FILE_ROOM;
+use lxtr_files::load;
+use lxtr_lookups::check;
+use lxtr_lookups::complete;
+use lxtr_lookups::exact;
+use lxtr_lookups::longest;
+use lxtr_lookups::prefixes;
+use lxtr_lookups::probe;
 use lxtr_messages::ARGUMENT_NOT_UTF8;
 use lxtr_messages::HELP;
 use lxtr_messages::LONG_ARGUMENT;

@@ -1,10 +1,9 @@
 // The commands that write files: build and keys. A file is written only when there is all that goes into it.
-use crate::files::save;
-use crate::rooms::LARGEST_FILE;
-use crate::rooms::WORK_WORDS;
 use lxtr_command_spec::LONG_WORD;
 use lxtr_command_spec::MANY_WORDS;
 use lxtr_command_spec::NOT_UTF8;
+use lxtr_files::LARGEST_FILE;
+use lxtr_files::save;
 use lxtr_messages::BYTES;
 use lxtr_messages::KEYS;
 use lxtr_messages::LARGE_LIST;
@@ -19,6 +18,10 @@ use lxtr_messages::say;
 use lxtr_messages::tell;
 use lxtr_spec::MAX_KEYS;
 use lxtr_spec::MAX_LABELS;
+use lxtr_spec::MAX_SLOTS;
+
+// Work for the most slots that an image may have, two words for each.
+const WORK_WORDS: usize = 2 * MAX_SLOTS;
 
 // Builds the image of a key list into the file that the third argument names.
 pub fn build(keys: &[u8]) {

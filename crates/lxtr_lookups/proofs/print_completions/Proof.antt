@@ -3,8 +3,8 @@ use borrow.Author.Needs.{needs}
 use Prim.Native.Nat.{_≤_, _-_}
 use native.Mathlib.Omega.{arith}
 use Rattle.lxtr_text.specs.Records.{is-whole}
-use Rattle.lxtr.proofs.searches.print_completions.Statement.{statement}
-use Rattle.lxtr.proofs.searches.print_completions.Tie as tie
+use Rattle.lxtr_lookups.proofs.print_completions.Statement.{statement}
+use Rattle.lxtr_lookups.proofs.print_completions.Tie as tie
 
 abbrev Inv-loop : tie.InvT-loop
 Inv-loop listing count at₀ i₀ at i = i ≤ count

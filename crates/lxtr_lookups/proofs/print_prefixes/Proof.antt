@@ -2,8 +2,8 @@
 use borrow.Author.Needs.{needs}
 use Prim.Native.Nat.{_-_, _≤_}
 use native.Mathlib.Omega.{arith}
-use Rattle.lxtr.proofs.searches.print_prefixes.Statement.{statement}
-use Rattle.lxtr.proofs.searches.print_prefixes.Tie as tie
+use Rattle.lxtr_lookups.proofs.print_prefixes.Statement.{statement}
+use Rattle.lxtr_lookups.proofs.print_prefixes.Tie as tie
 
 abbrev Inv-loop : tie.InvT-loop
 Inv-loop query count lengths values i₀ i = i ≤ 65

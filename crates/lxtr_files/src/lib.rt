@@ -1,18 +1,28 @@
 // Files read into lent room and written whole. What the system refuses is told on standard error, with its reason.
 ghost use Prim.Native.Nat.{_≤_};
 ghost use lib.ListN.{length};
-use crate::rooms::FILE_ROOM;
-use crate::rooms::LARGEST_FILE;
 use lxtr_messages::FAILED;
 use lxtr_messages::LARGE_FILE;
 use lxtr_messages::REFUSED;
 use lxtr_messages::printed;
 use lxtr_messages::say;
 use lxtr_messages::tell;
+use lxtr_spec::MAX_LISTED;
+use lxtr_spec::MAX_SLOTS;
 use lxtr_text::joined;
 
+// The largest image: header, nodes, offsets, children but for slots 0 and 1, and code map. No file that is larger is read or written.
+pub const LARGEST_FILE: usize = 24
+    + 8 * MAX_SLOTS
+    + 4 * (MAX_SLOTS + 1)
+    + 4 * (MAX_SLOTS - 2)
+    + (5 + 4 * MAX_LISTED);
+
+// Room for a file, and one byte more, so that a larger file is known. It is lent as an array, so that no proof has to count its elements.
+pub const FILE_ROOM: usize = LARGEST_FILE + 1;
+
 // Tells what failed, with the system's reason.
-pub fn fail(what: &[u8]) {
+fn fail(what: &[u8]) {
     os::fail(what);
     say(FAILED);
 }

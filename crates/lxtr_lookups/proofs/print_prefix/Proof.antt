@@ -3,8 +3,8 @@ use borrow.Author.Needs.{needs}
 use mathlib.Core.Path.{sym}
 use native.Mathlib.Omega.{arith}
 use lib.Seq.{length-take-le}
-use Rattle.lxtr.proofs.searches.print_prefix.Statement.{statement}
-use Rattle.lxtr.proofs.searches.print_prefix.Tie as tie
+use Rattle.lxtr_lookups.proofs.print_prefix.Statement.{statement}
+use Rattle.lxtr_lookups.proofs.print_prefix.Tie as tie
 
 pub print-prefix-spec : {M : Type 1} → statement M
 print-prefix-spec =

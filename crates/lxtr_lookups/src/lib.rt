@@ -1,8 +1,8 @@
-// The commands that look an image over or up: check, exact, prefixes, longest, probe and complete.
+// The inspector's commands that look an image over or up: check, exact, prefixes, longest, probe and complete. Each calls the proved
+// operation and prints what it answers; the last line is one word, for scripts.
 ghost use mathlib.Core.Path.{_≡_};
 ghost use mathlib.Core.Bool.{true};
 ghost use Rattle.lxtr_text.specs.Records.{isWholeRecord};
-use crate::rooms::LISTING_ROOM;
 use lxtr_complete::HEAD_LENGTH;
 use lxtr_messages::ABSENT;
 use lxtr_messages::ABSENT_IN_REFUSED;
@@ -34,6 +34,9 @@ use lxtr_text::key_line;
 use lxtr_text::prefix_line;
 use lxtr_text::record_end;
 use texts::print;
+
+// Room for the completions of a prefix. It is lent as an array, so that no proof has to count its elements.
+const LISTING_ROOM: usize = 2097152;
 
 pub fn check(image: &[u8]) {
     let verdict = lxtr_check::check(image);
