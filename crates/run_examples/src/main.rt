@@ -1,7 +1,6 @@
 // Runs document 01's examples, and more on its limits and refusals, through the compiled operations: reads a script on standard input,
 // and prints each of its lines with the answer behind it.
 mod rooms; // the arrays that are lent
-mod lines; // reading a line of the script
 mod output; // printing
 mod answers; // the commands that ask
 
@@ -13,27 +12,27 @@ use crate::answers::header;
 use crate::answers::longest;
 use crate::answers::prefixes;
 use crate::answers::probe;
-use crate::lines::BUILD;
-use crate::lines::CHECK;
-use crate::lines::COMPLETE;
-use crate::lines::CUT;
-use crate::lines::EXACT;
-use crate::lines::HEADER;
-use crate::lines::IMAGE;
-use crate::lines::LONGEST;
-use crate::lines::MORE;
-use crate::lines::PREFIXES;
-use crate::lines::PROBE;
-use crate::lines::Request;
-use crate::lines::SET;
-use crate::lines::read_request;
 use crate::output::COLON;
 use crate::output::END;
 use crate::output::NOT_READ;
 use crate::output::say;
-use crate::rooms::ROOM;
 use crate::rooms::SCRIPT_ROOM;
-use crate::rooms::put_bytes;
+use example_lines::BUILD;
+use example_lines::CHECK;
+use example_lines::COMPLETE;
+use example_lines::CUT;
+use example_lines::EXACT;
+use example_lines::HEADER;
+use example_lines::IMAGE;
+use example_lines::LONGEST;
+use example_lines::MORE;
+use example_lines::PREFIXES;
+use example_lines::PROBE;
+use example_lines::ROOM;
+use example_lines::Request;
+use example_lines::SET;
+use example_lines::put_bytes;
+use example_lines::read_request;
 use libc::STDIN_FILENO;
 use texts::behind;
 use texts::byte_at;

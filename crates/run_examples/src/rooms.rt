@@ -1,10 +1,7 @@
-// The arrays that the program lends, and filling them without leaving them. They are lent as arrays: no proof then has to count their
-// elements.
+// The arrays that the program lends. They are lent as arrays: no proof then has to count their elements.
 
-// Room for the script, for an image and for the bytes of a line.
+// Room for the script.
 pub const SCRIPT_ROOM: usize = 65536;
-
-pub const ROOM: usize = 32768;
 
 // What is lent at most to the builder, and to completion.
 pub const WORK_WORDS: usize = 16384;
@@ -17,26 +14,6 @@ pub const LISTING_ROOM: usize = 300;
 pub const FILLING_WORD: u32 = 7;
 
 pub const FILLING_BYTE: u8 = 0xEE;
-
-// Puts a byte at a place, and answers the next place, if there is room.
-pub fn push(bytes: &mut [u8; ROOM], at: usize, byte: u8) -> usize {
-    if at < ROOM {
-        bytes[at] = byte;
-        return at + 1;
-    }
-    at
-}
-
-// Puts bytes at a place, and answers the next place.
-pub fn put_bytes(to: &mut [u8; ROOM], at: usize, from: &[u8]) -> usize {
-    let mut next = at;
-    let mut i: usize = 0;
-    while i < from.len() {
-        next = push(to, next, from[i]);
-        i += 1;
-    }
-    next
-}
 
 // Whether the bytes from a place on are as they were filled.
 pub fn is_left(out: &[u8; OUTPUT_ROOM], from: usize) -> bool {

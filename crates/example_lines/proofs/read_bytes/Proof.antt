@@ -1,7 +1,7 @@
 -- The turns that are left fall to none.
 use borrow.Author.Needs.{needs}
-use Rattle.run_examples.proofs.lines.read_bytes.Statement.{statement}
-use Rattle.run_examples.proofs.lines.read_bytes.Tie as tie
+use Rattle.example_lines.proofs.read_bytes.Statement.{statement}
+use Rattle.example_lines.proofs.read_bytes.Tie as tie
 
 abbrev Inv-loop : tie.InvT-loop
 Inv-loop line at bytes₀ i₀ size₀ left₀ bytes i size left = Unit {0}

@@ -2,8 +2,8 @@
 use borrow.Author.Needs.{needs}
 use Prim.Native.Nat.{_-_}
 use lib.ListN.{length}
-use Rattle.run_examples.proofs.rooms.put_bytes.Statement.{statement}
-use Rattle.run_examples.proofs.rooms.put_bytes.Tie as tie
+use Rattle.example_lines.proofs.put_bytes.Statement.{statement}
+use Rattle.example_lines.proofs.put_bytes.Tie as tie
 
 abbrev Inv-loop : tie.InvT-loop
 Inv-loop to₀ at from next₀ i₀ to next i = Unit {0}

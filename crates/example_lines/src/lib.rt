@@ -1,9 +1,11 @@
-// Reading a line of the script: the command's name, its decimal numbers, and its bytes. Bytes are written as hexadecimal numbers of two
-// digits to a byte, a space before each number; NUMBER*N stands for the number N times, NUMBER+N for N numbers that rise from it by 1.
-use crate::rooms::ROOM;
-use crate::rooms::push;
+// Reading a line of the script of `run_examples`: the command's name, its decimal numbers, and its bytes. Bytes are written as
+// hexadecimal numbers of two digits to a byte, a space before each number; NUMBER*N stands for the number N times, NUMBER+N for N
+// numbers that rise from it by 1.
 use texts::behind;
 use texts::byte_at;
+
+// Room for the bytes of a line, and for an image.
+pub const ROOM: usize = 32768;
 
 // The commands, each by its name as a number: its letters are the bytes, the last lowest.
 pub const IMAGE: u64 = 0x696D616765;
@@ -156,6 +158,26 @@ fn read_series(line: &[u8], at: usize) -> Series {
         width: number.digits / 2,
         next: times.next,
     }
+}
+
+// Puts a byte at a place, and answers the next place, if there is room.
+fn push(bytes: &mut [u8; ROOM], at: usize, byte: u8) -> usize {
+    if at < ROOM {
+        bytes[at] = byte;
+        return at + 1;
+    }
+    at
+}
+
+// Puts bytes at a place, and answers the next place.
+pub fn put_bytes(to: &mut [u8; ROOM], at: usize, from: &[u8]) -> usize {
+    let mut next = at;
+    let mut i: usize = 0;
+    while i < from.len() {
+        next = push(to, next, from[i]);
+        i += 1;
+    }
+    next
 }
 
 // The byte of a number that has k bytes below it.

@@ -1,7 +1,7 @@
 -- The numbers that are left fall to none.
 use borrow.Author.Needs.{needs}
-use Rattle.run_examples.proofs.lines.push_series.Statement.{statement}
-use Rattle.run_examples.proofs.lines.push_series.Tie as tie
+use Rattle.example_lines.proofs.push_series.Statement.{statement}
+use Rattle.example_lines.proofs.push_series.Tie as tie
 
 abbrev Inv-loop : tie.InvT-loop
 Inv-loop bytes₀ at series next₀ number₀ left₀ bytes next number left = Unit {0}

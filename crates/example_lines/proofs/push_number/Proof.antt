@@ -1,7 +1,7 @@
 -- The bytes that are left fall to none.
 use borrow.Author.Needs.{needs}
-use Rattle.run_examples.proofs.lines.push_number.Statement.{statement}
-use Rattle.run_examples.proofs.lines.push_number.Tie as tie
+use Rattle.example_lines.proofs.push_number.Statement.{statement}
+use Rattle.example_lines.proofs.push_number.Tie as tie
 
 abbrev Inv-loop : tie.InvT-loop
 Inv-loop bytes₀ at number width next₀ k₀ bytes next k = Unit {0}

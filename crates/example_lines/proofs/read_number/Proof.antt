@@ -2,8 +2,8 @@
 use borrow.Author.Needs.{needs}
 use Prim.Native.Nat.{_≤_, _-_}
 use lib.ListN.{length}
-use Rattle.run_examples.proofs.lines.read_number.Statement.{statement}
-use Rattle.run_examples.proofs.lines.read_number.Tie as tie
+use Rattle.example_lines.proofs.read_number.Statement.{statement}
+use Rattle.example_lines.proofs.read_number.Tie as tie
 
 abbrev Inv-loop : tie.InvT-loop
 Inv-loop line at base value₀ digits₀ i₀ value digits i = digits ≤ i
