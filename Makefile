@@ -16,12 +16,10 @@ list:
 	$(call quietly,rt check list_pairs)
 	@target/bin/list_pairs < samples/goods.keys
 
-# The programs that run document 01's examples.
-EXAMPLES = header_refusals check_examples search_examples completion_examples build_examples
-
+# Document 01's examples: the script, and the answers of the compiled operations.
 examples:
-	$(call quietly,rt check $(EXAMPLES))
-	@for program in $(EXAMPLES); do target/bin/$$program || exit 1; done
+	$(call quietly,rt check run_examples)
+	@target/bin/run_examples < crates/run_examples/stdin
 
 # target/staticlib/liblxtr_c.a, for programs in C.
 archive:

@@ -59,20 +59,34 @@ fn print_pairs(listing: &[u8], count: u32) {
 // Prints the completions of the empty prefix.
 fn list_image(image: &[u8]) {
     let mut listing = [0u8; LISTING_ROOM];
-    let answer = complete(image, b"", &mut listing);
+    list_in(image, &mut listing);
+}
+
+// The large arrays are lent as arrays, so that no proof has to count their elements.
+fn list_in(image: &[u8], listing: &mut [u8; LISTING_ROOM]) {
+    let answer = complete(image, b"", listing);
     if answer.refusal != 0 {
         print_refusal(answer.refusal);
         return;
     }
     print_number(b"pairs", answer.count);
-    print_pairs(&listing, answer.count);
+    print_pairs(listing, answer.count);
 }
 
 // Builds the image of the keys, and lists it.
 fn list_keys(keys: &[u8]) {
     let mut work = [0u32; WORK_WORDS];
     let mut out = [0u8; OUTPUT_ROOM];
-    let built = build(keys, &mut work, &mut out);
+    build_in(keys, &mut work, &mut out);
+}
+
+// The arrays become slices, of which a part can be lent.
+fn build_in(keys: &[u8], work: &mut [u32; WORK_WORDS], out: &mut [u8; OUTPUT_ROOM]) {
+    build_into(keys, work, out);
+}
+
+fn build_into(keys: &[u8], work: &mut [u32], out: &mut [u8]) {
+    let built = build(keys, work, out);
     if built.refusal != 0 {
         print_refusal(built.refusal);
         return;

@@ -4,11 +4,6 @@ ghost use Prim.Native.Nat.{_<_};
 ghost use Rattle.lxtr_spec.specs.Image.{slotCount, childCount};
 ghost use Rattle.lxtr_laws.specs.Passed.{Passed};
 ghost use Rattle.lxtr_command_spec.specs.Drawings.{listOf};
-use crate::output::end;
-use crate::output::print;
-use crate::words::has_place;
-use crate::words::print_fault;
-use crate::words::print_refusal;
 use lxtr_draw::entry_text;
 use lxtr_draw::list_of;
 use lxtr_draw::slot_text;
@@ -16,8 +11,13 @@ use lxtr_draw::step_text;
 use lxtr_header::header_refusal;
 use lxtr_image::sections::child_count;
 use lxtr_image::sections::slot_count;
+use lxtr_messages::end;
+use lxtr_messages::has_place;
+use lxtr_messages::print_fault;
+use lxtr_messages::print_refusal;
 use lxtr_spec::Fault;
 use lxtr_text::LINE_ROOM;
+use lxtr_output::print;
 
 // A slot, and the step to it from its parent.
 fn draw_slot(image: &[u8], fault: Fault, s: u32)

@@ -1,17 +1,27 @@
 // The commands that write files: build and keys. A file is written only when there is all that goes into it.
-use crate::files::save;
-use crate::output::end;
-use crate::output::print;
-use crate::output::printed;
-use crate::output::say;
-use crate::rooms::LARGEST_FILE;
-use crate::rooms::WORK_WORDS;
-use crate::words::refuse;
 use lxtr_command_spec::LONG_WORD;
 use lxtr_command_spec::MANY_WORDS;
 use lxtr_command_spec::NOT_UTF8;
+use lxtr_files::LARGEST_FILE;
+use lxtr_files::save;
+use lxtr_messages::BYTES;
+use lxtr_messages::KEYS;
+use lxtr_messages::LARGE_LIST;
+use lxtr_messages::LINE_NOT_UTF8;
+use lxtr_messages::LONG_WORD_LINE;
+use lxtr_messages::REFUSED;
+use lxtr_messages::TOO_MANY_WORDS;
+use lxtr_messages::WRITTEN;
+use lxtr_messages::printed;
+use lxtr_messages::refuse;
+use lxtr_messages::say;
+use lxtr_messages::tell;
 use lxtr_spec::MAX_KEYS;
 use lxtr_spec::MAX_LABELS;
+use lxtr_spec::MAX_SLOTS;
+
+// Work for the most slots that an image may have, two words for each.
+const WORK_WORDS: usize = 2 * MAX_SLOTS;
 
 // Builds the image of a key list into the file that the third argument names.
 pub fn build(keys: &[u8]) {
@@ -32,29 +42,20 @@ fn build_into(keys: &[u8], work: &mut [u32], out: &mut [u8]) {
         return;
     }
     if save(3, &out[..built.length as usize]) {
-        say(b"bytes %\n", &[built.length]);
-        end(b"written");
+        tell(BYTES, built.length, 0);
+        say(WRITTEN);
     }
 }
 
 fn print_problem(problem: u8, line: usize) {
     if problem == NOT_UTF8 {
-        say(b"line %: this is not UTF-8\n", &[printed(line)]);
+        tell(LINE_NOT_UTF8, printed(line), 0);
     } else if problem == LONG_WORD {
-        say(
-            b"line %: the word has more than % labels\n",
-            &[printed(line), printed(MAX_LABELS)],
-        );
+        tell(LONG_WORD_LINE, printed(line), printed(MAX_LABELS));
     } else if problem == MANY_WORDS {
-        say(
-            b"there are more than % different words\n",
-            &[printed(MAX_KEYS)],
-        );
+        tell(TOO_MANY_WORDS, printed(MAX_KEYS), 0);
     } else {
-        say(
-            b"the key list would have more than % bytes\n",
-            &[printed(LARGEST_FILE)],
-        );
+        tell(LARGE_LIST, printed(LARGEST_FILE), 0);
     }
 }
 
@@ -74,11 +75,11 @@ fn list_into(text: &[u8], out: &mut [u8]) {
     let keyed = lxtr_words::key_list(&text[start..], out);
     if keyed.problem != 0 {
         print_problem(keyed.problem, keyed.line);
-        end(b"refused");
+        say(REFUSED);
         return;
     }
     if save(3, &out[..keyed.length]) {
-        say(b"keys %\n", &[printed(keyed.count)]);
-        end(b"written");
+        tell(KEYS, printed(keyed.count), 0);
+        say(WRITTEN);
     }
 }

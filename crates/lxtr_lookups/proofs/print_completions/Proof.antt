@@ -1,0 +1,29 @@
+-- The records are read only where they lie whole in the listing.
+use borrow.Author.Needs.{needs}
+use Prim.Native.Nat.{_≤_, _-_}
+use native.Mathlib.Omega.{arith}
+use Rattle.lxtr_lines.specs.Records.{is-whole}
+use Rattle.lxtr_lookups.proofs.print_completions.Statement.{statement}
+use Rattle.lxtr_lookups.proofs.print_completions.Tie as tie
+
+abbrev Inv-loop : tie.InvT-loop
+Inv-loop listing count at₀ i₀ at i = i ≤ count
+
+abbrev μ-loop : tie.MeasureT-loop
+μ-loop listing count at₀ i₀ at i = count - i
+
+pub print-completions-spec : {M : Type 1} → statement M
+print-completions-spec =
+    tie.close
+    (tie.spec
+    Inv-loop
+    μ-loop
+    (λ c. search needs)
+    (λ c κs. search needs)
+    (λ c. search needs)
+    (λ c κs. search is-whole)
+    (λ c κs. search is-whole)
+    (λ c. search needs)
+    (λ c. omega arith)
+    (λ c. search needs)
+    (λ c. search needs))

@@ -1,0 +1,155 @@
+// What the inspector's command says: every sentence by its place in a text. No contract can say what is written; what a line says is
+// decided by `lxtr_text`.
+mod refusals; // the sentence of each refusal, and of each place at fault
+
+use lxtr_text::LINE_ROOM;
+use lxtr_text::forms::fill;
+pub use refusals::has_place;
+pub use refusals::print_fault;
+pub use refusals::print_refusal;
+pub use refusals::refuse;
+pub use refusals::refuse_at;
+use lxtr_output::print;
+use lxtr_output::text_at;
+
+// Places of the sentences below; of the last lines first, each a word that scripts can test.
+pub const ACCEPTED: u8 = 0;
+
+pub const REFUSED: u8 = 1;
+
+pub const FOUND: u8 = 2;
+
+pub const ABSENT: u8 = 3;
+
+pub const LISTED: u8 = 4;
+
+pub const STOPPED: u8 = 5;
+
+pub const WRITTEN: u8 = 6;
+
+pub const HELP: u8 = 7;
+
+pub const FAILED: u8 = 8;
+
+pub const PAIRS: u8 = 9;
+
+pub const VALUE: u8 = 10;
+
+pub const NO_VALUE: u8 = 11;
+
+pub const LONG_QUERY: u8 = 12;
+
+pub const ABSENT_IN_REFUSED: u8 = 13;
+
+pub const ONLY_LONGER: u8 = 14;
+
+pub const NO_KEY: u8 = 15;
+
+pub const LONGER: u8 = 16;
+
+pub const NO_LONGER: u8 = 17;
+
+pub const MORE_KEYS: u8 = 18;
+
+pub const BYTES: u8 = 19;
+
+pub const KEYS: u8 = 20;
+
+pub const LINE_NOT_UTF8: u8 = 21;
+
+pub const LONG_WORD_LINE: u8 = 22;
+
+pub const TOO_MANY_WORDS: u8 = 23;
+
+pub const LARGE_LIST: u8 = 24;
+
+pub const LONG_ARGUMENT: u8 = 25;
+
+pub const ARGUMENT_NOT_UTF8: u8 = 26;
+
+pub const NO_COMMAND: u8 = 27;
+
+pub const OTHER_OPERANDS: u8 = 28;
+
+pub const LARGE_FILE: u8 = 29;
+
+// Prints a sentence; marks in it stand for the two numbers.
+pub fn tell(sentence: u8, first: u32, second: u32) {
+    print_form(
+        text_at(
+            b"accepted\n|\
+              refused\n|\
+              found\n|\
+              absent\n|\
+              listed\n|\
+              stopped\n|\
+              written\n|\
+              help\n|\
+              failed\n|\
+              pairs %\n|\
+              value %\n|\
+              value none\n|\
+              no key has more than % labels\n|\
+              it is not found; but the check refuses the image\n|\
+              it is no key, but longer keys begin with it\n|\
+              no key begins with it\n|\
+              longer keys\n|\
+              longer none\n|\
+              there are more, but no room for them\n|\
+              bytes %\n|\
+              keys %\n|\
+              line %: this is not UTF-8\n|\
+              line %: the word has more than % labels\n|\
+              there are more than % different words\n|\
+              the key list would have more than % bytes\n|\
+              the word has more than 4096 bytes\n|\
+              the word is not UTF-8\n|\
+              there is no such command; lxtr help lists them\n|\
+              the command takes other operands; lxtr help lists them\n|\
+              the file has more than % bytes, the most that an image has\n|",
+            sentence,
+        ),
+        first,
+        second,
+    );
+}
+
+pub fn say(sentence: u8) {
+    tell(sentence, 0, 0);
+}
+
+// A last line that is none of these.
+pub fn end(word: &[u8]) {
+    print(word);
+    print(b"\n");
+}
+
+// Prints a form with its numbers.
+fn print_form(form: &[u8], first: u32, second: u32) {
+    let mut line = [0u8; LINE_ROOM];
+    let length = fill(form, &[first, second], &mut line);
+    print(&line[..length]);
+}
+
+// A count as a number of a sentence; none that comes up has more than 32 bits.
+pub fn printed(n: usize) -> u32 {
+    if 0xFFFFFFFF < n {
+        return 0xFFFFFFFF;
+    }
+    n as u32
+}
+
+pub fn print_usage() {
+    print(
+        b"lxtr check IMAGE              whether it is an image; if not, what is wrong and where\n\
+          lxtr exact IMAGE WORD         the value of a word\n\
+          lxtr prefixes IMAGE TEXT      the words that a text begins with\n\
+          lxtr longest IMAGE TEXT       the longest of them\n\
+          lxtr probe IMAGE WORD         the value of a word; whether longer words begin with it\n\
+          lxtr complete IMAGE [PREFIX]  the words that begin with a prefix, in code order\n\
+          lxtr build KEYS IMAGE         makes the image of a key list\n\
+          lxtr keys TEXT KEYS           makes a key list of a text, one word per line\n\
+          lxtr draw IMAGE               a graph for Graphviz, what is wrong in red\n\
+          lxtr help                     this text\n",
+    );
+}

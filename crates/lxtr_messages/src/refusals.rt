@@ -1,0 +1,140 @@
+// The table of refusals: document 01's number is the place of the sentence. And the sentence for each place at fault.
+use crate::REFUSED;
+use crate::print_form;
+use crate::printed;
+use crate::say;
+use lxtr_spec::Fault;
+use lxtr_spec::LENGTH_COUNT;
+use lxtr_spec::MAX_KEYS;
+use lxtr_spec::MAX_LABELS;
+use lxtr_spec::MAX_LISTED;
+use lxtr_spec::MAX_SLOTS;
+use lxtr_output::print;
+use lxtr_output::text_at;
+
+// The limit that a refusal's sentence names.
+fn limit_of(refusal: u8) -> u32 {
+    match refusal {
+        12 => printed(LENGTH_COUNT),
+        16 => printed(MAX_KEYS),
+        17 => printed(MAX_LABELS),
+        20 => printed(MAX_LISTED),
+        22 => printed(MAX_SLOTS),
+        _ => 0,
+    }
+}
+
+// The sentence, without a line's end.
+pub fn print_refusal(refusal: u8) {
+    print_form(
+        text_at(
+            b"|\
+              refusal 1: the file has fewer than 24 bytes, too few for a header|\
+              refusal 2: the file does not begin with LXTR|\
+              refusal 3: the version is not 3|\
+              refusal 4: a byte of the header that has to be 0 is not|\
+              refusal 5: the header's slot count is not 2 to 65536, or it has too many children|\
+              refusal 6: the file is not as long as its header says|\
+              refusal 7: the code map has not its form, or not its length|\
+              refusal 8: the offsets do not go from 0 to the number of children|\
+              refusal 9: the code map lists a label that is no character, or one twice|\
+              refusal 10: a slot is wrong: words may be lost, or found wrongly|\
+              refusal 11: a children list is wrong: completions may lack words that lookups find|\
+              refusal 12: from a slot in use, % steps up do not reach slot 1|\
+              refusal 13: the query is cut within a label|\
+              refusal 14: there is no room for a listing|\
+              refusal 15: the file is no key list, or is cut short or too long|\
+              refusal 16: the key list has more than % keys|\
+              refusal 17: a key has more than % labels|\
+              refusal 18: a key has a label that is no character|\
+              refusal 19: the keys are not sorted, or one is there twice|\
+              refusal 20: the keys have more than % different labels|\
+              refusal 21: there is no room to build in|\
+              refusal 22: the keys do not go into % slots|\
+              refusal 23: there is no room for the image|",
+            refusal,
+        ),
+        limit_of(refusal),
+        0,
+    );
+}
+
+// Whether the fault has a place.
+pub fn has_place(refusal: u8) -> bool {
+    (9 <= refusal) & (refusal <= 12)
+}
+
+// The place of the fault's sentence below.
+fn fault_case(fault: Fault) -> u8 {
+    match fault {
+        Fault::Nowhere => 0,
+        Fault::Label(place) => 1,
+        Fault::Slot(s) => 2,
+        Fault::Offset(p) => 3,
+        Fault::Entry(p, j) => 4,
+        Fault::Unlisted(s) => 5,
+        Fault::Childless(s) => 6,
+        Fault::RootBase => 7,
+        Fault::Unreachable(s) => 8,
+    }
+}
+
+// The number that the sentence names first, and the second.
+fn fault_number(fault: Fault) -> u32 {
+    match fault {
+        Fault::Nowhere => 0,
+        Fault::Label(place) => place,
+        Fault::Slot(s) => s,
+        Fault::Offset(p) => p,
+        Fault::Entry(p, j) => j,
+        Fault::Unlisted(s) => s,
+        Fault::Childless(s) => s,
+        Fault::RootBase => 1,
+        Fault::Unreachable(s) => s,
+    }
+}
+
+fn fault_list(fault: Fault) -> u32 {
+    match fault {
+        Fault::Entry(p, j) => p,
+        _ => 0,
+    }
+}
+
+// Where the fault lies, without a line's end; nothing where it lies nowhere.
+pub fn print_fault(fault: Fault) {
+    print_form(
+        text_at(
+            b"|\
+              place % of the code map|\
+              slot %|\
+              the list of slot % ends before it begins|\
+              entry % of the children, in the list of slot %|\
+              slot % is in no list|\
+              slot % is no end and has an empty list|\
+              slot % has an empty list, and yet a base|\
+              slot %|",
+            fault_case(fault),
+        ),
+        fault_number(fault),
+        fault_list(fault),
+    );
+}
+
+// A refusal as a line, and the last word.
+pub fn refuse(refusal: u8) {
+    print_refusal(refusal);
+    print(b"\n");
+    say(REFUSED);
+}
+
+// The same, with a line for where the fault of an image lies.
+pub fn refuse_at(refusal: u8, fault: Fault) {
+    print_refusal(refusal);
+    print(b"\n");
+    if has_place(refusal) {
+        print_fault(fault);
+        print(b"\n");
+    }
+    say(REFUSED);
+}
