@@ -15,9 +15,9 @@ use lxtr_messages::end;
 use lxtr_messages::has_place;
 use lxtr_messages::print_fault;
 use lxtr_messages::print_refusal;
+use lxtr_output::print;
 use lxtr_spec::Fault;
 use lxtr_text::LINE_ROOM;
-use lxtr_output::print;
 
 // A slot, and the step to it from its parent.
 fn draw_slot(image: &[u8], fault: Fault, s: u32)

@@ -1,6 +1,7 @@
 // Files read into lent room and written whole. What the system refuses is told on standard error, with its reason.
 ghost use Prim.Native.Nat.{_≤_};
 ghost use lib.ListN.{length};
+use lxtr_lines::joined;
 use lxtr_messages::FAILED;
 use lxtr_messages::LARGE_FILE;
 use lxtr_messages::REFUSED;
@@ -9,7 +10,6 @@ use lxtr_messages::say;
 use lxtr_messages::tell;
 use lxtr_spec::MAX_LISTED;
 use lxtr_spec::MAX_SLOTS;
-use lxtr_lines::joined;
 
 // The largest image: header, nodes, offsets, children but for slots 0 and 1, and code map. No file that is larger is read or written.
 pub const LARGEST_FILE: usize = 24

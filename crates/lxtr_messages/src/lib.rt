@@ -2,6 +2,8 @@
 // decided by `lxtr_text`.
 mod refusals; // the sentence of each refusal, and of each place at fault
 
+use lxtr_output::print;
+use lxtr_output::text_at;
 use lxtr_text::LINE_ROOM;
 use lxtr_text::forms::fill;
 pub use refusals::has_place;
@@ -9,8 +11,6 @@ pub use refusals::print_fault;
 pub use refusals::print_refusal;
 pub use refusals::refuse;
 pub use refusals::refuse_at;
-use lxtr_output::print;
-use lxtr_output::text_at;
 
 // Places of the sentences below; of the last lines first, each a word that scripts can test.
 pub const ACCEPTED: u8 = 0;

@@ -3,14 +3,14 @@ use crate::REFUSED;
 use crate::print_form;
 use crate::printed;
 use crate::say;
+use lxtr_output::print;
+use lxtr_output::text_at;
 use lxtr_spec::Fault;
 use lxtr_spec::LENGTH_COUNT;
 use lxtr_spec::MAX_KEYS;
 use lxtr_spec::MAX_LABELS;
 use lxtr_spec::MAX_LISTED;
 use lxtr_spec::MAX_SLOTS;
-use lxtr_output::print;
-use lxtr_output::text_at;
 
 // The limit that a refusal's sentence names.
 fn limit_of(refusal: u8) -> u32 {

@@ -38,11 +38,11 @@ use crate::rooms::OUTPUT_ROOM;
 use crate::rooms::WORK_WORDS;
 use crate::rooms::is_left;
 use crate::rooms::words_are;
+use lxtr_output::front;
 use lxtr_spec::Built;
 use lxtr_spec::Completion;
 use lxtr_spec::Fault;
 use lxtr_spec::LENGTH_COUNT;
-use lxtr_output::front;
 
 // The most bytes of an image that are printed.
 const PRINTED: usize = 168;

@@ -1,8 +1,8 @@
 // What the program prints. The words of all answers stand in one text: each text that a function holds makes its proof longer.
 use libc::STDOUT_FILENO;
-use lxtr_spec::Found;
 use lxtr_output::print;
 use lxtr_output::text_at;
+use lxtr_spec::Found;
 
 // Places of the words in the text below.
 pub const END: u8 = 0;
