@@ -1,6 +1,6 @@
 -- What `place` knows while it goes into the children of a slot, and what it has to show there of a child.
 use Prim.Native.Nat.{ℕ, _+_, _*_, _-_, _^_, _≤_, _<_}
-use mathlib.Core.Path.{_≡_, _∙_, ap}
+use mathlib.Core.Path.{_≡_, _∙_}
 use mathlib.Core.Logic.{_≢_}
 use mathlib.Core.List.{List, [], _++_}
 use mathlib.Core.Bool.{Bool, true, false, not}
@@ -10,7 +10,7 @@ use mir.Val.{Fits}
 use borrow.Author.Needs.{fits-under}
 use lib.ListN.{getD, length, take, drop}
 use Rattle.lxtr_spec.specs.Labels.{lengthCount, Pair}
-use Rattle.lxtr_spec.specs.KeyLists.{maxKeys, pairsOf}
+use Rattle.lxtr_spec.specs.KeyLists.{pairsOf}
 use Rattle.lxtr_spec.specs.Joining.{slotUnder}
 use Rattle.lxtr_spec.specs.Placing.{childCodes, endValue, settle, below, place}
 use Rattle.lxtr_spec.specs.declared.Found.{Found}

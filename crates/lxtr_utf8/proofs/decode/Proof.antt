@@ -1,8 +1,5 @@
 -- The problem of a text that is not UTF-8, or of a room that is too small; or the labels at the front of the room.
-use Prim.Native.Nat.{_/_, _<_}
-use native.Mathlib.Omega.{arith}
 use borrow.Author.Needs.{needs}
-use lib.ListN.{length}
 use Rattle.lxtr_utf8.specs.Decoding.{decode-problem, decode-short, decode-text, decode-room, decode-done}
 use Rattle.lxtr_utf8.proofs.decode.Statement.{statement}
 use Rattle.lxtr_utf8.proofs.decode.Tie as tie

@@ -1,20 +1,15 @@
 -- The one proof of the cycle of calls {place}. The measure is how many labels are still allowed.
 -- The loop over the codes keeps `Going`: what is left to be gone into makes the whole.
-use Prim.Native.Nat.{ℕ, _+_, _*_, _-_, _^_, _≤_, _<_}
+use Prim.Native.Nat.{ℕ, _-_, _<_}
 use mathlib.Core.Path.{refl, ap, _∙_}
-use mathlib.Core.List.{List}
 use mathlib.Core.Logic.{⊎-elim}
 use native.Mathlib.Omega.{arith}
 use lib.ListN.{length}
-use mir.Syntax.{w64}
-use mir.Val.{Fits}
-use borrow.Author.Needs.{needs, fits-under}
+use borrow.Author.Needs.{needs}
 use borrow.Fn.Kinds.{In}
 use borrow.Fn.PlainCycle.{Measures, is, falls, and}
-use Rattle.lxtr_spec.specs.Labels.{maxLabels, Pair}
-use Rattle.lxtr_spec.specs.KeyLists.{maxKeys}
+use Rattle.lxtr_spec.specs.Labels.{maxLabels}
 use Rattle.lxtr_build_laws.specs.CodeTables.{codeBy, labelBy}
-use Rattle.lxtr_place.specs.declared.groups.Group.{Group}
 use Rattle.lxtr_place.specs.Groups.{groupOf}
 use Rattle.lxtr_place.specs.Codes.{front-size}
 use Rattle.lxtr_place.specs.Turns.{Going, no-label-left, none-fits}
@@ -60,14 +55,16 @@ Inv keys starts labels guesses codes order work₀ slots room₀ left p g count 
 abbrev μ : lts.MeasureT-loop
 μ keys starts labels guesses codes order work₀ slots room₀ left p g count base j₀ work room j = count - j
 
--- The places of the code that facts are taken from, and the way from each to the one before it.
+-- The places of the code that facts are taken from, and the way from each to an earlier one.
 module _ (t : ℕ) where
+  -- the entry, and what is known of each slice told
   abbrev Entry : Type 0
   Entry = lts.Start (told t) (at t) place.Post Inv μ
 
   abbrev Told : Type 0
   Told = lts.After-slice-known2 (told t) (at t) place.Post Inv μ
 
+  -- the codes are in the room, the slot is settled, its base is known
   abbrev Coded : Type 0
   Coded = lts.After-child-codes (told t) (at t) place.Post Inv μ
 
@@ -77,6 +74,7 @@ module _ (t : ℕ) where
   abbrev Based : Type 0
   Based = lts.After-known-told (told t) (at t) place.Post Inv μ
 
+  -- the loop, the turn of a child, its call of `place`, and the answer
   abbrev Loop : Type 0
   Loop = lts.At-loop (told t) (at t) place.Post Inv μ
 
@@ -89,6 +87,7 @@ module _ (t : ℕ) where
   abbrev Answered : Type 0
   Answered = lts.After-place (told t) (at t) place.Post Inv μ
 
+  -- one place for each of the eight slices
   abbrev entry : Told → Entry
   entry c = let half = c .before .before .before .before in half .before .before .before .before
 
@@ -97,9 +96,6 @@ module _ (t : ℕ) where
 
   abbrev settled : Based → Settled
   settled c = c .before .before .before .before .before
-
-  abbrev based : Loop → Based
-  based c = c .before
 
   abbrev loop : Turn → Loop
   loop c = c .before .before .before
