@@ -9,7 +9,7 @@ use borrow.Author.Tests.{eqb-true, eq-eqb}
 use lib.ListN.{length, getD}
 use lib.Seq.{ext-getD}
 use lib.Dec.{eqb}
-use Rattle.lxtr_laws.specs.Ranges.{below-suc}
+use Rattle.lxtr_laws.specs.RangeTests.{below-suc}
 use Rattle.lxtr_laws.specs.Tests.{and-is-true}
 use Rattle.lxtr_command_spec.specs.Commands.{sameBytes}
 

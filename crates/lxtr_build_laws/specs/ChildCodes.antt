@@ -13,7 +13,7 @@ use Rattle.lxtr_spec.specs.Labels.{Pair}
 use Rattle.lxtr_spec.specs.CodeMaps.{insert}
 use Rattle.lxtr_spec.specs.Placing.{nextCode, childCodes, below}
 use Rattle.lxtr_build_laws.specs.CodeTables.{Rising}
-use Rattle.lxtr_build_laws.specs.Rising.{insert-members, insert-rising, insert-length, insert-member}
+use Rattle.lxtr_build_laws.specs.RisingNumbers.{insert-members, insert-rising, insert-length, insert-member}
 use Rattle.lxtr_build_laws.specs.Groups.{CodesIn}
 
 rising-more : (code : ℕ → ℕ) (g : List Pair) (cs : List ℕ) → Rising cs → Rising (childCodes code g cs)

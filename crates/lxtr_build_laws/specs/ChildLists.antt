@@ -15,8 +15,8 @@ use Rattle.lxtr_spec.specs.Image.{topBit, low31}
 use Rattle.lxtr_spec.specs.Placing.{baseAt, checkAt}
 use Rattle.lxtr_spec.specs.Builds.{isChild, childBy, childrenOf, childrenIn, offsetsFrom}
 use Rattle.lxtr_laws.specs.Tests.{or-is-false, eqb-is-false, leb-is-false}
-use Rattle.lxtr_laws.specs.Ranges.{tests}
-use Rattle.lxtr_laws.specs.Joining.{code-of-slot}
+use Rattle.lxtr_laws.specs.RangeTests.{tests}
+use Rattle.lxtr_laws.specs.JoiningLaws.{code-of-slot}
 use Rattle.lxtr_laws.specs.Sorted.{Sorted, sorted-one, sorted-weaker}
 use Rattle.lxtr_laws.specs.Runs.{run-in, run-from, run-sorted}
 

@@ -10,7 +10,7 @@ use Rattle.lxtr_spec.specs.Joining.{slotUnder}
 use Rattle.lxtr_spec.specs.Image.{topBit}
 use Rattle.lxtr_spec.specs.Placing.{baseAt, checkAt, baseCount}
 use Rattle.lxtr_spec.specs.Sets.{PairSet, Has, Prefix}
-use Rattle.lxtr_build_laws.specs.Slots.{parentAt}
+use Rattle.lxtr_build_laws.specs.SlotWords.{parentAt}
 use Rattle.lxtr_build_laws.specs.ChildLists.{Child, TakenListed}
 
 -- what slot t of the work is

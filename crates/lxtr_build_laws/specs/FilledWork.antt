@@ -18,9 +18,9 @@ use Rattle.lxtr_spec.specs.Placing.{baseAt, checkAt, baseCount, nextCode, child
 use Rattle.lxtr_spec.specs.Builds.{slotsUsed}
 use Rattle.lxtr_spec.specs.Sets.{PairSet, Has, Prefix}
 use Rattle.lxtr_laws.specs.Tests.{leb-is-true}
-use Rattle.lxtr_laws.specs.Keys.{Last, empty, snoc, last, snoc-cons, prefix-root, prefix-key, prefix-part}
+use Rattle.lxtr_laws.specs.KeyPrefixes.{Last, empty, snoc, last, snoc-cons, prefix-root, prefix-key, prefix-part}
 use Rattle.lxtr_build_laws.specs.CodeTables.{Rising}
-use Rattle.lxtr_build_laws.specs.Slots.{base-same, Free, Taken, parentAt, free-or-taken}
+use Rattle.lxtr_build_laws.specs.SlotWords.{base-same, Free, Taken, parentAt, free-or-taken}
 use Rattle.lxtr_build_laws.specs.FirstFit.{slot-injective}
 use Rattle.lxtr_build_laws.specs.ChildCodes.{codes-rise, codes-have}
 use Rattle.lxtr_build_laws.specs.Nodes.{flagOf}

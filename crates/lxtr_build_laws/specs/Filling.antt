@@ -14,12 +14,12 @@ use Rattle.lxtr_spec.specs.Placing.{baseAt, checkAt, nextCode, childCodes, endV
 use Rattle.lxtr_spec.specs.CodeMaps.{mapOf, codeIn, labelWith}
 use Rattle.lxtr_spec.specs.Builds.{slotsIn, placedIn}
 use Rattle.lxtr_spec.specs.Sets.{PairSet, Has, Prefix}
-use Rattle.lxtr_laws.specs.Keys.{snoc-cons, GoesOn, prefix-on}
-use Rattle.lxtr_build_laws.specs.KeyLists.{KeysRight}
-use Rattle.lxtr_build_laws.specs.Labels.{Uses}
+use Rattle.lxtr_laws.specs.KeyPrefixes.{snoc-cons, GoesOn, prefix-on}
+use Rattle.lxtr_build_laws.specs.KeyListFacts.{KeysRight}
+use Rattle.lxtr_build_laws.specs.UsedLabels.{Uses}
 use Rattle.lxtr_build_laws.specs.Maps.{map-members, coded}
-use Rattle.lxtr_build_laws.specs.Slots.{Taken}
-use Rattle.lxtr_build_laws.specs.Steps.{Step}
+use Rattle.lxtr_build_laws.specs.SlotWords.{Taken}
+use Rattle.lxtr_build_laws.specs.PlacingSteps.{Step}
 use Rattle.lxtr_build_laws.specs.ChildCodes.{codes-have, codes-mem}
 use Rattle.lxtr_build_laws.specs.Placed.{place-step}
 use Rattle.lxtr_build_laws.specs.Nodes.{Node, Plain}

@@ -11,8 +11,8 @@ use lib.Dec.{leb, ltb, eqb}
 use Rattle.lxtr_spec.specs.Joining.{slotUnder, codeUnder}
 use Rattle.lxtr_spec.specs.Placing.{checkAt, isFree, fits, firstFitFrom, firstFit, baseCount}
 use Rattle.lxtr_laws.specs.Tests.{and-is-true, ltb-is-true, leb-is-true, eqb-is-true}
-use Rattle.lxtr_laws.specs.Joining.{code-of-slot}
-use Rattle.lxtr_build_laws.specs.Slots.{Free}
+use Rattle.lxtr_laws.specs.JoiningLaws.{code-of-slot}
+use Rattle.lxtr_build_laws.specs.SlotWords.{Free}
 
 -- the smallest base from b on that fits is r
 pub record Smallest (S : ℕ) (w cs : List ℕ) (b r : ℕ) : Type 0 where

@@ -9,8 +9,8 @@ use borrow.Author.Tests.{eqb-true}
 use lib.Dec.{eqb}
 use Rattle.lxtr_spec.specs.Labels.{comesBefore, Pair}
 use Rattle.lxtr_spec.specs.Placing.{below}
-use Rattle.lxtr_laws.specs.Order.{before-common}
-use Rattle.lxtr_build_laws.specs.KeyLists.{Ascending}
+use Rattle.lxtr_laws.specs.KeyOrder.{before-common}
+use Rattle.lxtr_build_laws.specs.KeyListFacts.{Ascending}
 
 -- the pair of g that a pair below comes from
 pub record Above (x : ℕ) (g : List Pair) (q : Pair) : Type 0 where

@@ -1,23 +1,23 @@
--- Facts about the builder's definitions, each stated once. Of these a reader of contracts meets KeyLists, CodeTables and Work.
-pub mod KeyLists
+-- Facts about the builder's definitions, each stated once. Of these a reader of contracts meets KeyListFacts, CodeTables and Work.
+pub mod KeyListFacts
 pub mod CodeTables
 pub mod Work
 -- key lists: one key, and a list that is not refused
-pub mod Keys
+pub mod KeyReading
 pub mod Passing
 -- the code map: rising lists, the labels used, and their order
-pub mod Rising
+pub mod RisingNumbers
 pub mod Moving
-pub mod Labels
+pub mod UsedLabels
 pub mod Maps
 -- what placing does to the work
 pub mod Groups
 pub mod ChildCodes
-pub mod Tables
-pub mod Slots
-pub mod Steps
+pub mod TableCodes
+pub mod SlotWords
+pub mod PlacingSteps
 pub mod FirstFit
-pub mod Settling
+pub mod SettledSlots
 pub mod Placed
 -- what it leaves there
 pub mod Nodes
@@ -31,7 +31,7 @@ pub mod UsedSlots
 pub mod Filled
 pub mod Filling
 pub mod FilledWork
-pub mod Counts
+pub mod ListTotals
 -- what building went through
 pub mod Outcomes
-pub mod Answers
+pub mod BuiltAnswers

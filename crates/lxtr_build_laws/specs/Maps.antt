@@ -13,13 +13,13 @@ use lib.ListN.{getD, length}
 use Rattle.lxtr_spec.specs.Labels.{Pair}
 use Rattle.lxtr_spec.specs.CodeMaps.{labelsUsed, frequency, goesBefore, rankIn, ranked, mapOf, codeIn, labelWith}
 use Rattle.lxtr_spec.specs.Meaning.{Ordered}
-use Rattle.lxtr_laws.specs.Ranges.{tests}
+use Rattle.lxtr_laws.specs.RangeTests.{tests}
 use Rattle.lxtr_laws.specs.Tests.{or-is-true, and-is-true, ltb-is-true}
 use Rattle.lxtr_laws.specs.Sorted.{sorted-weaker, adjacent-sorted}
 use Rattle.lxtr_laws.specs.Members.{member-at, one-place}
 use Rattle.lxtr_build_laws.specs.CodeTables.{Rising}
 use Rattle.lxtr_laws.specs.Inserted.{first-members, later-members, both-members, none-members}
-use Rattle.lxtr_build_laws.specs.Labels.{Uses, used-members, used-rising}
+use Rattle.lxtr_build_laws.specs.UsedLabels.{Uses, used-members, used-rising}
 
 -- ---- ranking, where f gives the frequencies
 

@@ -10,10 +10,10 @@ use lib.ListN.{length, set, length-set}
 use Rattle.lxtr_spec.specs.Joining.{slotUnder}
 use Rattle.lxtr_spec.specs.Placing.{baseAt, checkAt, baseCount, putChild, putChildren, putParent}
 use Rattle.lxtr_build_laws.specs.CodeTables.{Rising}
-use Rattle.lxtr_build_laws.specs.Slots.{check-of-base, check-same, base-of-check, base-same, Same, Free, Taken, parentAt}
-use Rattle.lxtr_build_laws.specs.Steps.{Step, Ready, ready-after}
+use Rattle.lxtr_build_laws.specs.SlotWords.{check-of-base, check-same, base-of-check, base-same, Same, Free, Taken, parentAt}
+use Rattle.lxtr_build_laws.specs.PlacingSteps.{Step, Ready, ready-after}
 use Rattle.lxtr_build_laws.specs.FirstFit.{AllFree, slot-injective}
-use Rattle.lxtr_build_laws.specs.Settling.{put-child-same, Settled, settle-free, settle-step, settle-parent, settle-ready}
+use Rattle.lxtr_build_laws.specs.SettledSlots.{put-child-same, Settled, settle-free, settle-step, settle-parent, settle-ready}
 use Rattle.lxtr_build_laws.specs.Placed.{Inner}
 
 -- HAS_LEAF where an end is among the children, whose codes rise

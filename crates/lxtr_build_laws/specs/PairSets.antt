@@ -7,9 +7,9 @@ use mathlib.Core.List.{List, [], _∷_, List-discrete, List·Memᴰ, List·Mem�
 use mathlib.Core.Option.{Option, some, none}
 use Rattle.lxtr_spec.specs.Labels.{comesBefore, Pair}
 use Rattle.lxtr_spec.specs.Sets.{PairSet, Has}
-use Rattle.lxtr_laws.specs.Order.{before-self}
-use Rattle.lxtr_laws.specs.Steps.{none-not-some}
-use Rattle.lxtr_build_laws.specs.KeyLists.{Ascending}
+use Rattle.lxtr_laws.specs.KeyOrder.{before-self}
+use Rattle.lxtr_laws.specs.StepFacts.{none-not-some}
+use Rattle.lxtr_build_laws.specs.KeyListFacts.{Ascending}
 
 -- this value where the keys are the same
 valueIf : {k l : List ℕ} → Dec (k ≡ l) → ℕ → Option ℕ → Option ℕ

@@ -8,11 +8,11 @@ use native.Mathlib.Omega.{arith}
 use lib.ListN.{length}
 use Rattle.lxtr_spec.specs.Labels.{isScalar, maxLabels, comesBefore, Pair}
 use Rattle.lxtr_spec.specs.KeyLists.{keysAt, keyCount, nextKey, keyAt, keysFrom, pairsOf, noScalarAt, notAbove, keyRefusal, keysRefusal, listRefusal}
-use Rattle.lxtr_laws.specs.Ranges.{tests}
-use Rattle.lxtr_laws.specs.Refusing.{none-refused, none-first}
-use Rattle.lxtr_laws.specs.Order.{before-trans}
-use Rattle.lxtr_build_laws.specs.KeyLists.{WholeKey, WholeKeys, Ascending, KeysPassed}
-use Rattle.lxtr_build_laws.specs.Keys.{key-size, key-label-of}
+use Rattle.lxtr_laws.specs.RangeTests.{tests}
+use Rattle.lxtr_laws.specs.RefusalChains.{none-refused, none-first}
+use Rattle.lxtr_laws.specs.KeyOrder.{before-trans}
+use Rattle.lxtr_build_laws.specs.KeyListFacts.{WholeKey, WholeKeys, Ascending, KeysPassed}
+use Rattle.lxtr_build_laws.specs.KeyReading.{key-size, key-label-of}
 
 -- key i, at a place, with the key before it at the place `before`
 pub record KeyPassed (b : List ℕ) (i before at : ℕ) : Type 0 where

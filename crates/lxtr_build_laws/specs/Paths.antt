@@ -13,9 +13,9 @@ use lib.ListN.{length}
 use Rattle.lxtr_spec.specs.Labels.{Pair}
 use Rattle.lxtr_spec.specs.Joining.{slotUnder}
 use Rattle.lxtr_spec.specs.Placing.{baseAt, nextCode, below, endValue}
-use Rattle.lxtr_laws.specs.Order.{before-self}
-use Rattle.lxtr_build_laws.specs.KeyLists.{Ascending}
-use Rattle.lxtr_build_laws.specs.Labels.{Uses}
+use Rattle.lxtr_laws.specs.KeyOrder.{before-self}
+use Rattle.lxtr_build_laws.specs.KeyListFacts.{Ascending}
+use Rattle.lxtr_build_laws.specs.UsedLabels.{Uses}
 use Rattle.lxtr_build_laws.specs.Groups.{below-mem, ascending-below}
 use Rattle.lxtr_build_laws.specs.ChildCodes.{codes-have, codes-mem}
 use Rattle.lxtr_build_laws.specs.Trees.{Tree}

@@ -10,10 +10,10 @@ use Rattle.lxtr_spec.specs.Labels.{Pair}
 use Rattle.lxtr_spec.specs.Joining.{slotUnder}
 use Rattle.lxtr_spec.specs.Placing.{childCodes, below, endValue, settle, intoEach, place}
 use Rattle.lxtr_build_laws.specs.CodeTables.{Rising}
-use Rattle.lxtr_build_laws.specs.Slots.{Free}
-use Rattle.lxtr_build_laws.specs.Steps.{Step, step-none, step-join, step-wider, Ready, ready-after}
+use Rattle.lxtr_build_laws.specs.SlotWords.{Free}
+use Rattle.lxtr_build_laws.specs.PlacingSteps.{Step, step-none, step-join, step-wider, Ready, ready-after}
 use Rattle.lxtr_build_laws.specs.ChildCodes.{codes-rise}
-use Rattle.lxtr_build_laws.specs.Settling.{settle-some, settle-free, settle-step, settle-ready}
+use Rattle.lxtr_build_laws.specs.SettledSlots.{settle-some, settle-free, settle-step, settle-ready}
 
 -- one of the slots of the codes cs under b that is gone into: not that of an end
 abbrev pub Inner : ℕ → List ℕ → ℕ → Type 0

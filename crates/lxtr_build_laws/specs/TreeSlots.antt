@@ -10,10 +10,10 @@ use Rattle.lxtr_spec.specs.Labels.{Pair}
 use Rattle.lxtr_spec.specs.Joining.{slotUnder}
 use Rattle.lxtr_spec.specs.Placing.{baseAt, childCodes, below, endValue, intoEach, place}
 use Rattle.lxtr_build_laws.specs.CodeTables.{Rising}
-use Rattle.lxtr_build_laws.specs.Slots.{Free, Taken, free-or-taken}
-use Rattle.lxtr_build_laws.specs.Steps.{Step}
+use Rattle.lxtr_build_laws.specs.SlotWords.{Free, Taken, free-or-taken}
+use Rattle.lxtr_build_laws.specs.PlacingSteps.{Step}
 use Rattle.lxtr_build_laws.specs.ChildCodes.{codes-rise}
-use Rattle.lxtr_build_laws.specs.Settling.{settle-only}
+use Rattle.lxtr_build_laws.specs.SettledSlots.{settle-only}
 use Rattle.lxtr_build_laws.specs.Placed.{Inner}
 use Rattle.lxtr_build_laws.specs.Nodes.{Plain}
 use Rattle.lxtr_build_laws.specs.Trees.{Tree, goInto, later-plain, later-step, later-taken, first-taken, first-other, placed-slot, placed-plain, placed-node, place-tree}

@@ -11,11 +11,11 @@ use Rattle.lxtr_spec.specs.Labels.{Pair}
 use Rattle.lxtr_spec.specs.Joining.{slotUnder}
 use Rattle.lxtr_spec.specs.Placing.{childCodes, below, endValue, settle, intoEach, place}
 use Rattle.lxtr_build_laws.specs.CodeTables.{Rising}
-use Rattle.lxtr_build_laws.specs.Slots.{Free, Taken, free-or-taken}
-use Rattle.lxtr_build_laws.specs.Steps.{Step}
+use Rattle.lxtr_build_laws.specs.SlotWords.{Free, Taken, free-or-taken}
+use Rattle.lxtr_build_laws.specs.PlacingSteps.{Step}
 use Rattle.lxtr_build_laws.specs.FirstFit.{slot-injective}
 use Rattle.lxtr_build_laws.specs.ChildCodes.{codes-rise}
-use Rattle.lxtr_build_laws.specs.Settling.{Settled, settle-some, settle-step}
+use Rattle.lxtr_build_laws.specs.SettledSlots.{Settled, settle-some, settle-step}
 use Rattle.lxtr_build_laws.specs.Placed.{Inner, into-each-step, place-step}
 use Rattle.lxtr_build_laws.specs.Nodes.{flagOf, Node, Plain, plain-after, settle-plain, settle-node}
 

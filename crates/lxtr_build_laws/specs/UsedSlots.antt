@@ -11,7 +11,7 @@ use Rattle.lxtr_spec.specs.Ranges.{countBelow}
 use Rattle.lxtr_spec.specs.Placing.{checkAt, isTakenFrom2}
 use Rattle.lxtr_spec.specs.Builds.{slotsUsed}
 use Rattle.lxtr_laws.specs.Tests.{cond-within}
-use Rattle.lxtr_laws.specs.Ranges.{below-suc, tests}
+use Rattle.lxtr_laws.specs.RangeTests.{below-suc, tests}
 
 module _ (w : List ℕ) where
   pub taken-is : (t : ℕ) → (isTakenFrom2 w t ≡ true) ↔ ((2 ≤ t) × (checkAt w t ≢ 0))

@@ -1,2 +1,2 @@
 -- Laws of the C entries: the number that each answers.
-pub mod Entries
+pub mod EntryNumbers

@@ -5,7 +5,7 @@ use mathlib.Core.Logic.{_≢_}
 use mathlib.Core.List.{List}
 use Rattle.lxtr_spec.specs.Refusals.{firstRefusal, unlessRefused, headerRefusal, bodyRefusal, imageRefusal, endCount, checkOf}
 use Rattle.lxtr_spec.specs.declared.Verdict.{Verdict}
-use Rattle.lxtr_laws.specs.Refusing.{first-stands, stands}
+use Rattle.lxtr_laws.specs.RefusalChains.{first-stands, stands}
 use Rattle.lxtr_laws.specs.Passed.{Whole, Passed, header-passed}
 use Rattle.lxtr_laws.specs.Faults.{parts-pass}
 

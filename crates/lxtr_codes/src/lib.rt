@@ -13,7 +13,7 @@ ghost use lib.ListN.{length};
 ghost use Rattle.lxtr_spec.specs.Labels.{maxListed};
 ghost use Rattle.lxtr_spec.specs.KeyLists.{pairsOf};
 ghost use Rattle.lxtr_spec.specs.CodeMaps.{labelsUsed};
-ghost use Rattle.lxtr_build_laws.specs.KeyLists.{KeysPassed};
+ghost use Rattle.lxtr_build_laws.specs.KeyListFacts.{KeysPassed};
 ghost use Rattle.lxtr_build_laws.specs.CodeTables.{tableSize, Mapped};
 ghost use Rattle.lxtr_codes.specs.Mapping.{CodedFront};
 use crate::counts::count_keys;

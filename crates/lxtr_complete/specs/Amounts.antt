@@ -12,10 +12,10 @@ use Rattle.lxtr_spec.specs.Ranges.{concatFrom}
 use Rattle.lxtr_spec.specs.Labels.{maxLabels, lengthCount, Pair}
 use Rattle.lxtr_spec.specs.Image.{slotCount, childCount, isLeaf, offset, child, listWidth}
 use Rattle.lxtr_spec.specs.Completions.{entryPairs, listFrom}
-use Rattle.lxtr_laws.specs.Ranges.{concat-more}
+use Rattle.lxtr_laws.specs.RangeTests.{concat-more}
 use Rattle.lxtr_laws.specs.Facts.{Accepted}
-use Rattle.lxtr_laws.specs.Places.{children-differ}
-use Rattle.lxtr_laws.specs.Entries.{sorted-lists, child-used}
+use Rattle.lxtr_laws.specs.EntryPlaces.{children-differ}
+use Rattle.lxtr_laws.specs.ListEntries.{sorted-lists, child-used}
 use Rattle.lxtr_complete.specs.Sums.{total, total-none, total-has, total-one-more, total-split, total-part}
 
 module _ (b : List ℕ) where

@@ -19,13 +19,13 @@ use Rattle.lxtr_spec.specs.Completions.{listFrom, pairsAt, pairsBelow, Completi
 use Rattle.lxtr_spec.specs.Answers.{found}
 use Rattle.lxtr_spec.specs.declared.Found.{Found}
 use Rattle.lxtr_spec.specs.declared.Found.the-variants.{Is, Nothing}
-use Rattle.lxtr_laws.specs.Refusing.{none-refused, none-first, first-stands, stands}
-use Rattle.lxtr_laws.specs.Ranges.{tests}
+use Rattle.lxtr_laws.specs.RefusalChains.{none-refused, none-first, first-stands, stands}
+use Rattle.lxtr_laws.specs.RangeTests.{tests}
 use Rattle.lxtr_laws.specs.Facts.{Accepted}
 use Rattle.lxtr_laws.specs.Faults.{accepted}
 use Rattle.lxtr_laws.specs.Stepping.{found-is, found-none}
 use Rattle.lxtr_laws.specs.Overlays.{over}
-use Rattle.lxtr_complete.specs.Writing.{state, after}
+use Rattle.lxtr_complete.specs.RecordWriting.{state, after}
 use Rattle.lxtr_complete.specs.Written.{after-count, written-done}
 use Rattle.lxtr_complete.specs.Amounts.{list-few}
 use Rattle.lxtr_complete.specs.Listing.{ListReady}

@@ -1,6 +1,6 @@
 -- What the code of completion computes, turn by turn. Of these a reader of its contracts, all of private functions, meets the
--- definitions that open Writing and Listing.
-pub mod Writing
+-- definitions that open RecordWriting and Listing.
+pub mod RecordWriting
 pub mod Written
 pub mod Sums
 pub mod Amounts

@@ -19,12 +19,12 @@ use Rattle.lxtr_spec.specs.Image.{slotCount, childCount, isLeaf, valueNumber, b
 use Rattle.lxtr_spec.specs.Refusals.{ownCode, endExists}
 use Rattle.lxtr_spec.specs.Completions.{entryPairs, listFrom}
 use Rattle.lxtr_spec.specs.Sets.{InList}
-use Rattle.lxtr_laws.specs.Ranges.{more}
+use Rattle.lxtr_laws.specs.RangeTests.{more}
 use Rattle.lxtr_laws.specs.Tests.{not-is-true}
-use Rattle.lxtr_laws.specs.Joining.{slot-of-base, slot-by-code}
+use Rattle.lxtr_laws.specs.JoiningLaws.{slot-of-base, slot-by-code}
 use Rattle.lxtr_laws.specs.Facts.{Accepted}
-use Rattle.lxtr_laws.specs.Entries.{child-used, place-below, code-from, code-below}
-use Rattle.lxtr_complete.specs.Writing.{State, state, put, after, InRoom, PutReady, after-append, after-stopped, in-room-after}
+use Rattle.lxtr_laws.specs.ListEntries.{child-used, place-below, code-from, code-below}
+use Rattle.lxtr_complete.specs.RecordWriting.{State, state, put, after, InRoom, PutReady, after-append, after-stopped, in-room-after}
 
 -- a code of the code map
 pub record CodeListed (b : List ℕ) (c : ℕ) : Type 0 where

@@ -7,7 +7,7 @@ use native.Mathlib.Nat.{add-zero, le-refl, not-suc-le-zero}
 use native.Mathlib.Omega.{arith}
 use lib.Dec.{eqb}
 use borrow.Author.Tests.{eq-eqb, ne-eqb}
-use Rattle.lxtr_laws.specs.Ranges.{below-suc}
+use Rattle.lxtr_laws.specs.RangeTests.{below-suc}
 
 -- the sum of what the numbers below n give
 unfoldable pub total : ℕ → (ℕ → ℕ) → ℕ

@@ -15,7 +15,7 @@ use Rattle.lxtr_spec.specs.Labels.{Pair}
 use Rattle.lxtr_spec.specs.Completions.{recordOf, recordsOf, fitting, listingOf, listedIn, completionAnswer, written}
 use Rattle.lxtr_laws.specs.Lengths.{records-length, listing-length}
 use Rattle.lxtr_laws.specs.Overlays.{over, over-length, over-none, over-over}
-use Rattle.lxtr_complete.specs.Writing.{State, state, put, after, put-fits, put-not, after-stopped}
+use Rattle.lxtr_complete.specs.RecordWriting.{State, state, put, after, put-fits, put-not, after-stopped}
 
 -- the state after those records that fit
 abbrev filled : List ℕ → ℕ → ℕ → List Pair → List Pair → State

@@ -9,7 +9,7 @@ ghost use Rattle.lxtr_spec.specs.Joining.{codeUnder};
 ghost use Rattle.lxtr_spec.specs.Completions.{listFrom};
 ghost use Rattle.lxtr_laws.specs.Passed.{Passed};
 ghost use Rattle.lxtr_laws.specs.Facts.{Accepted};
-ghost use Rattle.lxtr_complete.specs.Writing.{state, after, PutReady};
+ghost use Rattle.lxtr_complete.specs.RecordWriting.{state, after, PutReady};
 ghost use Rattle.lxtr_complete.specs.Listing.{CodeListed, EntryOf, EndsOf, endPairs, Kept, ListReady};
 use crate::records::put_record;
 use lxtr_image::code_map::label_at;

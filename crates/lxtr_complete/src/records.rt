@@ -5,7 +5,7 @@ ghost use lib.ListN.{length, take, getD};
 ghost use Rattle.lxtr_spec.specs.Numbers.{beWords};
 ghost use Rattle.lxtr_spec.specs.Labels.{lengthCount};
 ghost use Rattle.lxtr_laws.specs.Overlays.{over};
-ghost use Rattle.lxtr_complete.specs.Writing.{state, put, PutReady};
+ghost use Rattle.lxtr_complete.specs.RecordWriting.{state, put, PutReady};
 use lxtr_bytes::numbers::put_be32;
 use lxtr_spec::LENGTH_COUNT;
 

@@ -22,7 +22,7 @@ pub mod Rooms
 pub mod Completions
 pub mod Demand3
 -- Where a fault lies.
-pub mod FaultPlaces
+pub mod RightPlaces
 -- The other searches.
 pub mod Probes
 pub mod Prefixes

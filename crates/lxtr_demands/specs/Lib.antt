@@ -3,7 +3,7 @@
 pub mod Demand3
 pub mod Demand2
 pub mod Builder
-pub mod FaultPlaces
+pub mod RightPlaces
 pub mod Laws
 pub mod Rows
 pub mod Examples

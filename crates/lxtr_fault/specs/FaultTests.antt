@@ -19,7 +19,7 @@ use Rattle.lxtr_spec.specs.declared.Fault.the-variants.{Nowhere, Label, Slot, O
 use Rattle.lxtr_laws.specs.Tests.{outcome, not-is-true, not-is-false}
 use Rattle.lxtr_laws.specs.Firsts.{first-below, first-there, first-past}
 use Rattle.lxtr_laws.specs.Passed.{Whole, Passed}
-use Rattle.lxtr_laws.specs.Lists.{offsets-rise}
+use Rattle.lxtr_laws.specs.ListPlaces.{offsets-rise}
 use Rattle.lxtr_laws.specs.Faults.{used-from-2, slots-right, offsets-right}
 use Rattle.lxtr_laws.specs.Refused.{refusal-most, refused-passed, slots-right-by}
 

@@ -11,7 +11,7 @@ use lib.Seq.{drop-cons}
 use borrow.Author.Tests.{not-true, not-false}
 use Rattle.lxtr_spec.specs.Joining.{slotUnder}
 use Rattle.lxtr_spec.specs.Placing.{isFree, fits, firstFitFrom, firstFit, baseCount}
-use Rattle.lxtr_laws.specs.Ranges.{more}
+use Rattle.lxtr_laws.specs.RangeTests.{more}
 use Rattle.lxtr_build_laws.specs.FirstFit.{fit-past, fit-here}
 
 -- the slots of the first j codes are free

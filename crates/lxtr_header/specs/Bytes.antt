@@ -9,7 +9,7 @@ use Rattle.lxtr_spec.specs.Numbers.{byteAt, le32}
 use Rattle.lxtr_spec.specs.Ranges.{anyBelow}
 use Rattle.lxtr_spec.specs.Image.{magic}
 use Rattle.lxtr_spec.specs.Refusals.{byteDiffers, magicDiffers, reservedSet}
-use Rattle.lxtr_laws.specs.Ranges.{tests}
+use Rattle.lxtr_laws.specs.RangeTests.{tests}
 
 -- two faults that are absent together are one
 same-fault : (s t : Bool) → (s ≡ false → t ≡ false) → (t ≡ false → s ≡ false) → s ≡ t

@@ -1,3 +1,3 @@
 -- Laws of the numbers and of the words that a host program is answered.
 pub mod Numbering
-pub mod Places
+pub mod PlaceWords

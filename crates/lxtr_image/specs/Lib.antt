@@ -1,3 +1,3 @@
 -- What the code computes, turn by turn.
-pub mod Codes
+pub mod CodeSearch
 pub mod Blocks

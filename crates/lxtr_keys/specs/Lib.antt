@@ -1,2 +1,2 @@
 -- What the code computes, turn by turn and test by test. Of these a reader of its contracts meets WholeBefore.
-pub mod Refusing
+pub mod KeyRefusals

@@ -17,7 +17,7 @@ use Rattle.lxtr_spec.specs.Labels.{isScalar, maxListed}
 use Rattle.lxtr_spec.specs.Image.{labelCount, labelAt}
 use Rattle.lxtr_spec.specs.Refusals.{sameLabel, labelWrong}
 use Rattle.lxtr_laws.specs.Tests.{cond-within}
-use Rattle.lxtr_laws.specs.Ranges.{below-suc, any-true}
+use Rattle.lxtr_laws.specs.RangeTests.{below-suc, any-true}
 use Rattle.lxtr_laws.specs.Passed.{Passed}
 
 -- one chain for each remainder

@@ -15,14 +15,14 @@ use Rattle.lxtr_spec.specs.Labels.{isScalar}
 use Rattle.lxtr_spec.specs.Image.{headerLength, magic, slotCount, childCount, mapLength, isLeaf, parent, hasParent, base, offset, labelCount, labelAt}
 use Rattle.lxtr_spec.specs.Refusals.{tooShort, byteDiffers, magicDiffers, versionWrong, reservedSet, sizesWrong, lengthWrong, mapWrong, offsetEndsWrong, headerRefusal, sameLabel, labelWrong, labelsWrong, isUsedFrom2, isUsed, bothZero, usedSlotWrong, endExists, flagWrong, slotWrong, slotsWrong, offsetFalls, entryWrong, codeNotAbove, entryWrongIn, entriesWrong, childless, rootWrong, listsWrong, reaches, unreachable, someUnreachable, bodyRefusal, imageRefusal, isEnd}
 use Rattle.lxtr_spec.specs.Sets.{InList}
-use Rattle.lxtr_laws.specs.Ranges.{below-suc}
-use Rattle.lxtr_laws.specs.Refusing.{none-refused, none-first}
-use Rattle.lxtr_laws.specs.Joining.{slot-of-base}
-use Rattle.lxtr_laws.specs.Ranges.{tests}
+use Rattle.lxtr_laws.specs.RangeTests.{below-suc}
+use Rattle.lxtr_laws.specs.RefusalChains.{none-refused, none-first}
+use Rattle.lxtr_laws.specs.JoiningLaws.{slot-of-base}
+use Rattle.lxtr_laws.specs.RangeTests.{tests}
 use Rattle.lxtr_laws.specs.Tests.{is-false, or-is-true, eqb-is-true}
 use Rattle.lxtr_laws.specs.Facts.{ZeroWords, UsedFrom2, Used, UsedRight, SlotRight, EntryRight, ListsRight, ancestor, Reaches, Accepted}
-use Rattle.lxtr_laws.specs.Lists.{in-list}
-use Rattle.lxtr_laws.specs.Steps.{Stepped}
+use Rattle.lxtr_laws.specs.ListPlaces.{in-list}
+use Rattle.lxtr_laws.specs.StepFacts.{Stepped}
 
 module _ (b : List ℕ) where
   -- 4

@@ -8,7 +8,7 @@ use native.Mathlib.Omega.{arith}
 use lib.Dec.{ltb}
 use borrow.Author.Tests.{lt-ltb, le-ltb}
 use Rattle.lxtr_spec.specs.Ranges.{anyBelow, firstFrom, firstBelow}
-use Rattle.lxtr_laws.specs.Ranges.{any-true, any-false}
+use Rattle.lxtr_laws.specs.RangeTests.{any-true, any-false}
 
 -- r is the first of the n numbers from i on, or the number behind them
 record FirstFrom (f : ℕ → Bool) (n i r : ℕ) : Type 0 where

@@ -1,17 +1,17 @@
 -- Facts about the definitions of `lxtr_spec`, each stated once. Of these a reader of contracts meets the three records of Passed,
 -- in private functions of `lxtr_complete` Accepted of Facts, and, of sorted tables, Sorted and placeBy of OrderedLists.
 pub mod Tests
-pub mod Ranges
+pub mod RangeTests
 pub mod Firsts
-pub mod Refusing
-pub mod Joining
-pub mod Order
+pub mod RefusalChains
+pub mod JoiningLaws
+pub mod KeyOrder
 pub mod Passed
-pub mod Lists
+pub mod ListPlaces
 pub mod ByteOrders
 pub mod ReadBack
 pub mod Sorted
-pub mod Counting
+pub mod Bijections
 pub mod Members
 pub mod Leading
 pub mod Inserted
@@ -20,19 +20,19 @@ pub mod Runs
 pub mod Lengths
 pub mod Overlays
 pub mod Facts
-pub mod Keys
-pub mod Steps
+pub mod KeyPrefixes
+pub mod StepFacts
 pub mod Faults
 pub mod Refused
-pub mod Places
-pub mod Entries
+pub mod EntryPlaces
+pub mod ListEntries
 -- What the code computes, turn by turn and test by test, as far as several crates need it: a search for the first number that
 -- passes a test, a count of those that do, a step, the walk of a query, what the searches answer.
 pub mod Scans
 pub mod Tallies
 pub mod Stepping
-pub mod Queries
+pub mod QueryLabels
 pub mod Walking
-pub mod Searches
+pub mod SearchReturns
 -- how a table of computed examples is stated and proved
 pub mod ExampleTables

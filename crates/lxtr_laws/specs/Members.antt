@@ -9,7 +9,7 @@ use mathlib.Core.List.{List, [], _∷_, List·Memᴰ, List·Memᴰ·head, List·
 use mathlib.Core.Bool.{Bool, true}
 use lib.ListN.{getD, length}
 use Rattle.lxtr_spec.specs.Ranges.{countBelow}
-use Rattle.lxtr_laws.specs.Counting.{count-of}
+use Rattle.lxtr_laws.specs.Bijections.{count-of}
 use Rattle.lxtr_laws.specs.Sorted.{Sorted}
 
 -- z is the default of places behind the end

@@ -9,8 +9,8 @@ use Rattle.lxtr_spec.specs.Labels.{minSlots, maxSlots, maxListed}
 use Rattle.lxtr_spec.specs.Image.{headerLength, slotCount, childCount, mapLength, imageLength, offset, labelCount}
 use Rattle.lxtr_spec.specs.Refusals.{tooShort, sizesWrong, lengthWrong, mapWrong, offsetEndsWrong, headerRefusal}
 use Rattle.lxtr_laws.specs.Tests.{ltb-is-false, outcome}
-use Rattle.lxtr_laws.specs.Ranges.{tests}
-use Rattle.lxtr_laws.specs.Refusing.{none-refused}
+use Rattle.lxtr_laws.specs.RangeTests.{tests}
+use Rattle.lxtr_laws.specs.RefusalChains.{none-refused}
 
 -- after refusals 1 to 5
 pub record Sized (b : List ℕ) : Type 0 where

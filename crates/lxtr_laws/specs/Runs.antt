@@ -11,7 +11,7 @@ use mathlib.Core.Logic.{_⊎_, inl, inr}
 use mathlib.Core.List.{List, _++_, append-assoc, List·Memᴰ, List·Memᴰ·not-nil, Memᴰ·append-left, Memᴰ·append-right, List·Memᴰ·append-cases}
 use native.Mathlib.Numerals.{add-one}
 use Rattle.lxtr_spec.specs.Ranges.{concatFrom}
-use Rattle.lxtr_laws.specs.Ranges.{concat-more}
+use Rattle.lxtr_laws.specs.RangeTests.{concat-more}
 use Rattle.lxtr_laws.specs.Sorted.{Sorted, sorted-append}
 
 module _ {A : Type 0} where

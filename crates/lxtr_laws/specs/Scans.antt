@@ -6,7 +6,7 @@ use native.Mathlib.Numerals.{add-one}
 use native.Mathlib.Omega.{arith}
 use Rattle.lxtr_spec.specs.Ranges.{anyBelow, firstBelow}
 use Rattle.lxtr_laws.specs.Tests.{outcome}
-use Rattle.lxtr_laws.specs.Ranges.{any-true, any-false}
+use Rattle.lxtr_laws.specs.RangeTests.{any-true, any-false}
 use Rattle.lxtr_laws.specs.Firsts.{first-below, one-first}
 
 pub record NoneSoFar (f : ℕ → Bool) (i m : ℕ) : Type 0 where

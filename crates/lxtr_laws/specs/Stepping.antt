@@ -13,7 +13,7 @@ use Rattle.lxtr_spec.specs.Answers.{found}
 use Rattle.lxtr_spec.specs.declared.Found.{Found}
 use Rattle.lxtr_spec.specs.declared.Found.the-variants.{Is, Nothing}
 use Rattle.lxtr_laws.specs.Tests.{outcome, not-is-true, not-is-false}
-use Rattle.lxtr_laws.specs.Steps.{step-is}
+use Rattle.lxtr_laws.specs.StepFacts.{step-is}
 
 -- what an answer that was matched on says
 pub found-is : (f : Found) (t : ℕ) (o : Option ℕ) → found f ≡ o → f ≡ Is t → o ≡ some t

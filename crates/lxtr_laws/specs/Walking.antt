@@ -19,9 +19,9 @@ use Rattle.lxtr_spec.specs.declared.Found.{Found}
 use Rattle.lxtr_spec.specs.declared.Found.the-variants.{Is, Nothing}
 use borrow.Author.Tests.{lt-ltb, le-ltb, ltb-false}
 use Rattle.lxtr_laws.specs.Passed.{Passed}
-use Rattle.lxtr_laws.specs.Keys.{Last, empty, snoc, last}
+use Rattle.lxtr_laws.specs.KeyPrefixes.{Last, empty, snoc, last}
 use Rattle.lxtr_laws.specs.Stepping.{found-is, found-none}
-use Rattle.lxtr_laws.specs.Steps.{none-not-some, some-same, step-by-is, walk-empty, walk-append, walk-snoc}
+use Rattle.lxtr_laws.specs.StepFacts.{none-not-some, some-same, step-by-is, walk-empty, walk-append, walk-snoc}
 
 -- the first i labels reach slot n, which is one of the image's
 pub record Walked (b xs : List ℕ) (i n : ℕ) : Type 0 where

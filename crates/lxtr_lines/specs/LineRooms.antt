@@ -7,7 +7,7 @@ use mathlib.Core.Bool.{true}
 use lib.ListN.{length, length-append}
 use Rattle.lxtr_spec.specs.Labels.{maxLabels, Pair}
 use Rattle.lxtr_spec.specs.Lines.{space, lineEnd, decimal, hexadecimal, numberLine, labelsText, pairLine}
-use Rattle.lxtr_build_laws.specs.Keys.{key-size}
+use Rattle.lxtr_build_laws.specs.KeyReading.{key-size}
 use Rattle.lxtr_command_spec.specs.Forms.{shown, shownAll, spaced, tab, keyText, completionLine, prefixLine}
 use Rattle.lxtr_lines.specs.Records.{recordPair, isWholeRecord, whole-record}
 use Rattle.lxtr_text.specs.Rooms.{lineRoom, decimal-length, hexadecimal-length, shown-length}

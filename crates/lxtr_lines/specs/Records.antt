@@ -11,10 +11,10 @@ use lib.Dec.{leb, ltb}
 use Rattle.lxtr_spec.specs.Numbers.{be32}
 use Rattle.lxtr_spec.specs.Labels.{maxLabels, labelsOf, Pair}
 use Rattle.lxtr_spec.specs.KeyLists.{keyLength, keyLabel, keyAt, nextKey}
-use Rattle.lxtr_laws.specs.Ranges.{tests}
-use Rattle.lxtr_laws.specs.Queries.{label-count, label-read}
-use Rattle.lxtr_build_laws.specs.KeyLists.{WholeKey}
-use Rattle.lxtr_build_laws.specs.Keys.{key-size, key-at}
+use Rattle.lxtr_laws.specs.RangeTests.{tests}
+use Rattle.lxtr_laws.specs.QueryLabels.{label-count, label-read}
+use Rattle.lxtr_build_laws.specs.KeyListFacts.{WholeKey}
+use Rattle.lxtr_build_laws.specs.KeyReading.{key-size, key-at}
 
 -- the pair of the record at a place, and the place behind it
 unfoldable pub recordPair : List ℕ → ℕ → Pair

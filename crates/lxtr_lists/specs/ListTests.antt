@@ -12,7 +12,7 @@ use Rattle.lxtr_spec.specs.Ranges.{anyBelow}
 use Rattle.lxtr_spec.specs.Image.{slotCount, childCount, parent, codeTo, offset, child, listWidth}
 use Rattle.lxtr_spec.specs.Refusals.{isUsed, offsetFalls, usedCount, entryWrong, codeNotAbove, entriesWrong, childless, rootWrong, listsWrong}
 use Rattle.lxtr_laws.specs.Passed.{Passed}
-use Rattle.lxtr_laws.specs.Lists.{in-list, in-children}
+use Rattle.lxtr_laws.specs.ListPlaces.{in-list, in-children}
 use Rattle.lxtr_laws.specs.Faults.{offsets-right}
 
 -- a loop that looks at all numbers below a bound m: r is whether one of those below i passes the test f

@@ -16,15 +16,15 @@ use Rattle.lxtr_spec.specs.KeyLists.{keysAt, maxKeys, keyCount, nextKey, keyAt,
 use Rattle.lxtr_spec.specs.CodeMaps.{mapOf, codeIn, labelWith}
 use Rattle.lxtr_spec.specs.Placing.{checkAt, place}
 use Rattle.lxtr_spec.specs.Builds.{slotsIn, placedIn}
-use Rattle.lxtr_build_laws.specs.KeyLists.{WholeKeys, KeysPassed}
+use Rattle.lxtr_build_laws.specs.KeyListFacts.{WholeKeys, KeysPassed}
 use Rattle.lxtr_build_laws.specs.CodeTables.{codeBy, labelBy, CodeTables}
-use Rattle.lxtr_build_laws.specs.Keys.{whole-here, whole-on, key-starts}
+use Rattle.lxtr_build_laws.specs.KeyReading.{whole-here, whole-on, key-starts}
 use Rattle.lxtr_build_laws.specs.Work.{Cleared}
 use Rattle.lxtr_build_laws.specs.Groups.{CodesIn}
-use Rattle.lxtr_build_laws.specs.Tables.{codes-in, label-is}
-use Rattle.lxtr_build_laws.specs.Slots.{zeros-check}
+use Rattle.lxtr_build_laws.specs.TableCodes.{codes-in, label-is}
+use Rattle.lxtr_build_laws.specs.SlotWords.{zeros-check}
 use Rattle.lxtr_place.specs.declared.groups.Group.{Group}
-use Rattle.lxtr_place.specs.Groups.{placeOf, groupFrom, groupOf, Placeable, Lent}
+use Rattle.lxtr_place.specs.GroupRanges.{placeOf, groupFrom, groupOf, Placeable, Lent}
 use Rattle.lxtr_place.specs.Children.{Fresh}
 use Rattle.lxtr_place.specs.Within.{Called}
 use Rattle.lxtr_place.specs.Agreeing.{Agree, place-same}

@@ -8,11 +8,11 @@ use lib.ListN.{getD, length}
 use Rattle.lxtr_spec.specs.Joining.{slotUnder}
 use Rattle.lxtr_laws.specs.Members.{member-at}
 use Rattle.lxtr_build_laws.specs.CodeTables.{Rising}
-use Rattle.lxtr_build_laws.specs.Rising.{rising-at}
-use Rattle.lxtr_build_laws.specs.Slots.{Free, Taken, parentAt, free-or-taken}
-use Rattle.lxtr_build_laws.specs.Steps.{Step, Ready}
+use Rattle.lxtr_build_laws.specs.RisingNumbers.{rising-at}
+use Rattle.lxtr_build_laws.specs.SlotWords.{Free, Taken, parentAt, free-or-taken}
+use Rattle.lxtr_build_laws.specs.PlacingSteps.{Step, Ready}
 use Rattle.lxtr_build_laws.specs.FirstFit.{slot-injective}
-use Rattle.lxtr_build_laws.specs.Settling.{Among, Settled, settle-free, settle-only, settle-step, settle-parent, settle-ready}
+use Rattle.lxtr_build_laws.specs.SettledSlots.{Among, Settled, settle-free, settle-only, settle-step, settle-parent, settle-ready}
 
 -- slot p may be gone into: it is taken and has no child yet, and no taken slot has a free parent
 pub record Fresh (S : ℕ) (w : List ℕ) (p : ℕ) : Type 0 where

@@ -19,14 +19,14 @@ use lib.Seq.{drop-drop}
 use Rattle.lxtr_spec.specs.Labels.{lengthCount, valueLimit, Pair}
 use Rattle.lxtr_spec.specs.KeyLists.{keyLength, keyLabel, nextKey, keyAt}
 use Rattle.lxtr_spec.specs.Placing.{below, endValue}
-use Rattle.lxtr_laws.specs.Ranges.{more}
-use Rattle.lxtr_build_laws.specs.KeyLists.{WholeKey, WholeKeys, Ascending}
+use Rattle.lxtr_laws.specs.RangeTests.{more}
+use Rattle.lxtr_build_laws.specs.KeyListFacts.{WholeKey, WholeKeys, Ascending}
 use Rattle.lxtr_build_laws.specs.CodeTables.{codeBy}
 use Rattle.lxtr_build_laws.specs.Groups.{ascending-below, codes-below}
-use Rattle.lxtr_build_laws.specs.Keys.{key-ends, key-goes, whole-on}
+use Rattle.lxtr_build_laws.specs.KeyReading.{key-ends, key-goes, whole-on}
 use Rattle.lxtr_place.specs.declared.groups.Group.{Group}
-use Rattle.lxtr_place.specs.Groups.{placeOf, groupFrom, groupOf, Grouped, Indexed, Placeable, goesBy, isUnder, runOf}
-use Rattle.lxtr_place.specs.Runs.{tails, below-past, run-by, run-past, under-past, under-before, front-below, end-none}
+use Rattle.lxtr_place.specs.GroupRanges.{placeOf, groupFrom, groupOf, Grouped, Indexed, Placeable, goesBy, isUnder, runOf}
+use Rattle.lxtr_place.specs.GroupRuns.{tails, below-past, run-by, run-past, under-past, under-before, front-below, end-none}
 
 -- ---- one key
 

@@ -1,10 +1,10 @@
--- What the placing's code computes, turn by turn. The public contracts use none of it; those of private functions use Groups
--- and the definitions that open Settling, Codes, Children and Within.
-pub mod Settling
-pub mod Groups
-pub mod Runs
+-- What the placing's code computes, turn by turn. The public contracts use none of it; those of private functions use GroupRanges
+-- and the definitions that open SettlingWords, GatheredCodes, Children and Within.
+pub mod SettlingWords
+pub mod GroupRanges
+pub mod GroupRuns
 pub mod GroupLoops
-pub mod Codes
+pub mod GatheredCodes
 -- the recursion: the next child is fresh, the turns of the loop, and what is known meanwhile
 pub mod Children
 pub mod Turns

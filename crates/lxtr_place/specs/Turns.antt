@@ -21,10 +21,10 @@ use Rattle.lxtr_build_laws.specs.CodeTables.{Rising}
 use Rattle.lxtr_build_laws.specs.Work.{placedAs}
 use Rattle.lxtr_build_laws.specs.Groups.{CodesIn}
 use Rattle.lxtr_build_laws.specs.ChildCodes.{codes-rise, codes-small, codes-few}
-use Rattle.lxtr_build_laws.specs.Steps.{Step, step-none, step-join, step-wider}
-use Rattle.lxtr_build_laws.specs.Settling.{Settled, settle-some, settle-step}
+use Rattle.lxtr_build_laws.specs.PlacingSteps.{Step, step-none, step-join, step-wider}
+use Rattle.lxtr_build_laws.specs.SettledSlots.{Settled, settle-some, settle-step}
 use Rattle.lxtr_build_laws.specs.Placed.{place-step}
-use Rattle.lxtr_place.specs.Settling.{settledAs}
+use Rattle.lxtr_place.specs.SettlingWords.{settledAs}
 use Rattle.lxtr_place.specs.Children.{Fresh, Done, next-fresh}
 
 -- ---- going into one child after the other

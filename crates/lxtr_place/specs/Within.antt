@@ -15,15 +15,15 @@ use Rattle.lxtr_spec.specs.Joining.{slotUnder}
 use Rattle.lxtr_spec.specs.Placing.{childCodes, endValue, settle, below, place}
 use Rattle.lxtr_spec.specs.declared.Found.{Found}
 use Rattle.lxtr_spec.specs.declared.Found.the-variants.{Is}
-use Rattle.lxtr_build_laws.specs.KeyLists.{Ascending}
+use Rattle.lxtr_build_laws.specs.KeyListFacts.{Ascending}
 use Rattle.lxtr_build_laws.specs.CodeTables.{codeBy, labelBy, CodeTables}
 use Rattle.lxtr_build_laws.specs.Work.{placedAs}
 use Rattle.lxtr_place.specs.declared.groups.Group.{Group}
-use Rattle.lxtr_place.specs.Groups.{groupOf, Grouped, Indexed, Placeable, Lent}
+use Rattle.lxtr_place.specs.GroupRanges.{groupOf, Grouped, Indexed, Placeable, Lent}
 use Rattle.lxtr_place.specs.GroupLoops.{group-size, child-placeable}
-use Rattle.lxtr_place.specs.Settling.{settledAs}
+use Rattle.lxtr_place.specs.SettlingWords.{settledAs}
 use Rattle.lxtr_place.specs.Children.{Fresh}
-use Rattle.lxtr_place.specs.Codes.{order-long, order-inside}
+use Rattle.lxtr_place.specs.GatheredCodes.{order-long, order-inside}
 use Rattle.lxtr_place.specs.Turns.{Started, Going, start, going-start, going-size, going-end, turn-small, turn-past, turn-fresh, turn-room, turn-on, turn-refused}
 
 module _ (keys starts labels codes order : List ℕ) (S left p : ℕ) (g : Group) (w r : List ℕ) where

@@ -10,7 +10,7 @@ ghost use lib.ListN.{length};
 ghost use Rattle.lxtr_spec.specs.KeyLists.{keyCount, pairsOf};
 ghost use Rattle.lxtr_spec.specs.CodeMaps.{mapOf};
 ghost use Rattle.lxtr_spec.specs.Builds.{placedIn};
-ghost use Rattle.lxtr_build_laws.specs.KeyLists.{KeysPassed};
+ghost use Rattle.lxtr_build_laws.specs.KeyListFacts.{KeysPassed};
 ghost use Rattle.lxtr_build_laws.specs.CodeTables.{CodeTables};
 ghost use Rattle.lxtr_build_laws.specs.Work.{Cleared, placedAs};
 ghost use Rattle.lxtr_place.specs.AllKeys.{StartsPut};

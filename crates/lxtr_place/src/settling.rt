@@ -6,7 +6,7 @@ ghost use Rattle.lxtr_spec.specs.Labels.{valueLimit};
 ghost use Rattle.lxtr_spec.specs.Joining.{slotUnder};
 ghost use Rattle.lxtr_spec.specs.Placing;
 ghost use Rattle.lxtr_spec.specs.Placing.{putParent, putChild, putChildren};
-ghost use Rattle.lxtr_place.specs.Settling.{ChildrenInside, settledAs};
+ghost use Rattle.lxtr_place.specs.SettlingWords.{ChildrenInside, settledAs};
 use lxtr_fit::fitting::first_fit;
 use lxtr_image::joining::slot_under;
 use lxtr_image::nodes::TOP_BIT;

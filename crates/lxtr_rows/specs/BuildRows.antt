@@ -1,5 +1,5 @@
 -- Document 01's example "Run", what a label's frequency counts, then the builder's refusals and the order of two that hold at once.
--- (Not 20 and 22, which take long to compute: the program `build_examples` runs them.)
+-- (Not 20 and 22, which take long to compute: the program `run_examples` runs them.)
 use Prim.Native.Nat.{ℕ}
 use mathlib.Core.Path.{refl}
 use mathlib.Core.List.{List, [], _∷_, _++_}

@@ -16,8 +16,8 @@ use Rattle.lxtr_spec.specs.Searches.{searchRefusal, longestLength, lengthMatch,
 use Rattle.lxtr_spec.specs.Answers.{found}
 use Rattle.lxtr_spec.specs.declared.Found.{Found}
 use Rattle.lxtr_spec.specs.declared.Prefixes.{Prefixes}
-use Rattle.lxtr_laws.specs.Ranges.{more, concat-more}
-use Rattle.lxtr_laws.specs.Queries.{label-count}
+use Rattle.lxtr_laws.specs.RangeTests.{more, concat-more}
+use Rattle.lxtr_laws.specs.QueryLabels.{label-count}
 use Rattle.lxtr_laws.specs.Walking.{Walked}
 use Rattle.lxtr_search.specs.Matches.{counted, matchesTo, match-count, matches-start, matches-next}
 

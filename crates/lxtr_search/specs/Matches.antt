@@ -17,7 +17,7 @@ use Rattle.lxtr_spec.specs.Searches.{lengthMatch, matchAt, matches, prefixMatch
 use Rattle.lxtr_spec.specs.Answers.{found}
 use Rattle.lxtr_spec.specs.declared.Found.{Found}
 use Rattle.lxtr_spec.specs.declared.Found.the-variants.{Is, Nothing}
-use Rattle.lxtr_laws.specs.Ranges.{concat-more, concat-none, concat-length}
+use Rattle.lxtr_laws.specs.RangeTests.{concat-more, concat-none, concat-length}
 use Rattle.lxtr_laws.specs.Walking.{Walked, walked-next, walked-stop}
 
 -- the labels of a query that count

@@ -11,7 +11,7 @@ use borrow.Author.Tests.{le-leb, lt-leb, eq-eqb, ne-eqb}
 use Rattle.lxtr_spec.specs.Image.{slotCount, isLeaf, parent, codeTo, labelCount}
 use Rattle.lxtr_spec.specs.Refusals.{isUsedFrom2, isUsed, ownCode, bothZero, usedSlotWrong, flagWrong, slotWrong}
 use Rattle.lxtr_laws.specs.Tests.{outcome, not-is-true, not-is-false}
-use Rattle.lxtr_laws.specs.Ranges.{tests}
+use Rattle.lxtr_laws.specs.RangeTests.{tests}
 use Rattle.lxtr_laws.specs.Faults.{used-from-2}
 
 -- a slot from 2 up that is unused has parent 0

@@ -8,7 +8,7 @@ use borrow.Author.Tests.{lt-ltb, le-ltb, not-true, not-false}
 use lib.ListN.{length}
 use lib.Dec.{eqb}
 use Rattle.lxtr_spec.specs.Labels.{isScalar}
-use Rattle.lxtr_laws.specs.Ranges.{tests}
+use Rattle.lxtr_laws.specs.RangeTests.{tests}
 use Rattle.lxtr_command_spec.specs.Utf8.{tailByte, utf8}
 use Rattle.lxtr_command_spec.specs.Forms.{isControl, shown, quoted}
 use Rattle.lxtr_text.specs.Appends.{Appended, append-more}

@@ -3,6 +3,6 @@
 pub mod Appends
 pub mod Numerals
 pub mod Characters
-pub mod Forms
+pub mod FormLoops
 pub mod Rooms
 pub mod TextExamples

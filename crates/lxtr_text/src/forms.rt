@@ -4,7 +4,7 @@ ghost use Prim.Native.Nat.{_≤_};
 ghost use lib.ListN.{length};
 ghost use Rattle.lxtr_command_spec.specs.Forms.{nextNumber, piece, takes, filled};
 ghost use Rattle.lxtr_text.specs.Appends.{Appended};
-ghost use Rattle.lxtr_text.specs.Forms.{nextPlace};
+ghost use Rattle.lxtr_text.specs.FormLoops.{nextPlace};
 use crate::appending::append_byte;
 use crate::characters::append_quoted;
 use crate::numerals::append_decimal;

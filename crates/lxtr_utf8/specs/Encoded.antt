@@ -16,7 +16,7 @@ use Rattle.lxtr_laws.specs.Tests.{and-is-true}
 use Rattle.lxtr_command_spec.specs.Utf8.{tailByte, utf8, textOf, frontNumber, beginsWith, beginsRight, optionCons, labelsOfText}
 use Rattle.lxtr_utf8.specs.Fronts.{Size, one, two, three, four, size-of, one-byte, two-bytes, three-bytes, four-bytes, number-one, number-two, number-three, number-four}
 use Rattle.lxtr_utf8.specs.Texts.{begins-split, some-bytes, cons-some, labels-end, labels-right, labels-wrong}
-use Rattle.lxtr_utf8.specs.Order.{by-64, by-4096, order-of-labels}
+use Rattle.lxtr_utf8.specs.TextOrder.{by-64, by-4096, order-of-labels}
 use Rattle.lxtr_utf8.specs.Octets.{Scalars, scalar-small, text-length, low-byte, seen-byte}
 use Rattle.lxtr_utf8.specs.Rfc3629.{Rfc3629}
 

@@ -4,7 +4,7 @@ pub mod Rfc3629
 pub mod Utf8Examples
 pub mod Fronts
 pub mod Texts
-pub mod Order
+pub mod TextOrder
 pub mod Octets
 pub mod Encoded
 pub mod Decoding

@@ -7,7 +7,7 @@ use mathlib.Core.List.{List, [], _∷_, List·Memᴰ, List·Memᴰ·cases-cons, 
 use mathlib.Core.Bool.{true}
 use lib.ListN.{length, length-append}
 use Rattle.lxtr_spec.specs.Labels.{isScalar}
-use Rattle.lxtr_laws.specs.Ranges.{tests}
+use Rattle.lxtr_laws.specs.RangeTests.{tests}
 use Rattle.lxtr_command_spec.specs.Utf8.{tailByte, utf8, textOf}
 use Rattle.lxtr_utf8.specs.Fronts.{Size, one, two, three, four, size-of, one-byte, two-bytes, three-bytes, four-bytes, count-one, count-two, count-three, count-four}
 use Rattle.lxtr_utf8.specs.Texts.{some-bytes}

@@ -2,16 +2,16 @@
 pub mod ListOfWords
 pub mod WordExamples
 -- The lines of a text, and the first of them that makes no word.
-pub mod Lines
+pub mod TextLines
 pub mod Problems
 -- The words in order, each once.
 pub mod Comparing
-pub mod Rising
-pub mod Tables
-pub mod Gathering
+pub mod RisingKeys
+pub mod WordTables
+pub mod WordGathering
 -- The key list of them, and the answer.
-pub mod Writing
-pub mod Answering
+pub mod KeyWriting
+pub mod ListReturns
 -- That list read back, and the proof of what it has to be.
 pub mod ReadKeys
 pub mod Listed

@@ -14,8 +14,8 @@ use Rattle.lxtr_command_spec.specs.declared.Decoded.{Decoded}
 use Rattle.lxtr_command_spec.specs.declared.Keyed.{Keyed}
 use Rattle.lxtr_command_spec.specs.Utf8.{labelsOfText, counted, countOf}
 use Rattle.lxtr_command_spec.specs.WordLists.{linesOf, wordOf, labelsProblem, wordProblem, firstProblem}
-use Rattle.lxtr_words.specs.Lines.{lineAt, lineEnd, wordAt, linesLeft, LineTo, left-all, left-more, left-none}
-use Rattle.lxtr_words.specs.Tables.{LinesRight}
+use Rattle.lxtr_words.specs.TextLines.{lineAt, lineEnd, wordAt, linesLeft, LineTo, left-all, left-more, left-none}
+use Rattle.lxtr_words.specs.WordTables.{LinesRight}
 
 -- the answer for the first problem, with its line
 unfoldable pub problemAnswer : Option (ℕ × ℕ) → Keyed

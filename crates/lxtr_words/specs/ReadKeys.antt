@@ -12,15 +12,15 @@ use Rattle.lxtr_spec.specs.Numbers.{beBytes, beWords, be32}
 use Rattle.lxtr_spec.specs.Labels.{isScalar, maxLabels, Pair}
 use Rattle.lxtr_spec.specs.KeyLists.{maxKeys, listVersion, keyCount, keyLength, keyLabel, nextKey, keyAt, keysFrom, pairsOf, noScalarAt, notAbove, keyRefusal, keysRefusal, listRefusal}
 use Rattle.lxtr_spec.specs.Samples.{keyRecords, keyList}
-use Rattle.lxtr_laws.specs.Ranges.{tests}
-use Rattle.lxtr_laws.specs.Refusing.{none-refused, none-first}
+use Rattle.lxtr_laws.specs.RangeTests.{tests}
+use Rattle.lxtr_laws.specs.RefusalChains.{none-refused, none-first}
 use Rattle.lxtr_laws.specs.ByteOrders.{big, words-size}
 use Rattle.lxtr_laws.specs.ReadBack.{be-first, be-past, be-words}
 use Rattle.lxtr_laws.specs.Members.{member-at}
 use Rattle.lxtr_laws.specs.Sorted.{Sorted}
-use Rattle.lxtr_build_laws.specs.Keys.{key-size, key-at}
-use Rattle.lxtr_words.specs.Rising.{Before}
-use Rattle.lxtr_words.specs.Writing.{list-size}
+use Rattle.lxtr_build_laws.specs.KeyReading.{key-size, key-at}
+use Rattle.lxtr_words.specs.RisingKeys.{Before}
+use Rattle.lxtr_words.specs.KeyWriting.{list-size}
 
 -- a key that a list may have
 pub record KeyRight (k : List ℕ) : Type 0 where

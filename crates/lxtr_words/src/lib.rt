@@ -11,7 +11,7 @@ ghost use Prim.Native.Nat.{_≤_};
 ghost use lib.ListN.{length};
 ghost use Rattle.lxtr_spec.specs.KeyLists.{maxKeys};
 ghost use Rattle.lxtr_command_spec.specs.WordLists.{markLength, linesOf, keysOfText, keyed, keyedOf};
-ghost use Rattle.lxtr_words.specs.Tables.{keysOf, LinesRight, Table};
+ghost use Rattle.lxtr_words.specs.WordTables.{keysOf, LinesRight, Table};
 use crate::problems::first_problem;
 use crate::table::TABLE_SIZE;
 use crate::table::sort_words;

@@ -2,7 +2,7 @@
 ghost use mathlib.Core.Path.{_≡_};
 ghost use Prim.Native.Nat.{_≤_};
 ghost use lib.ListN.{length};
-ghost use Rattle.lxtr_words.specs.Lines.{wordAt, LineTo, WordTo};
+ghost use Rattle.lxtr_words.specs.TextLines.{wordAt, LineTo, WordTo};
 
 const LINE_FEED: u8 = 0x0a;
 

@@ -9,7 +9,7 @@ ghost use Rattle.lxtr_spec.specs.Labels.{maxLabels};
 ghost use Rattle.lxtr_spec.specs.KeyLists.{maxKeys};
 ghost use Rattle.lxtr_spec.specs.Samples.{keyRecords, keyList};
 ghost use Rattle.lxtr_laws.specs.Overlays.{over};
-ghost use Rattle.lxtr_words.specs.Tables.{keyOf, keysOf, WordRight, Table};
+ghost use Rattle.lxtr_words.specs.WordTables.{keyOf, keysOf, WordRight, Table};
 use crate::lines::word_at;
 use lxtr_bytes::heads::HEAD_LENGTH;
 use lxtr_bytes::heads::put_head;

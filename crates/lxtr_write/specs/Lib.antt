@@ -1,7 +1,7 @@
--- What the code that writes an image computes, turn by turn. Of these a reader of its contracts meets the records that open Counting,
--- Lists and Writing, and Answers.
-pub mod Counting
+-- What the code that writes an image computes, turn by turn. Of these a reader of its contracts meets the records that open SlotCounting,
+-- ListWriting and SectionWriting, and WriteOutcomes.
+pub mod SlotCounting
 pub mod Links
-pub mod Lists
-pub mod Writing
-pub mod Answers
+pub mod ListWriting
+pub mod SectionWriting
+pub mod WriteOutcomes

@@ -5,7 +5,7 @@ ghost use lib.ListN.{length};
 ghost use Rattle.lxtr_spec.specs.Ranges.{countBelow};
 ghost use Rattle.lxtr_spec.specs.Placing.{isTakenFrom2};
 ghost use Rattle.lxtr_spec.specs.Builds.{slotsUsed};
-ghost use Rattle.lxtr_write.specs.Counting.{Slots};
+ghost use Rattle.lxtr_write.specs.SlotCounting.{Slots};
 
 // Whether slot s lies from 2 up and is taken.
 fn is_taken_from_2(work: &[u32], s: usize) -> bool

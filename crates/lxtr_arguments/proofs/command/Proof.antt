@@ -1,7 +1,7 @@
 -- Each return is the row of the table whose name it is, behind those whose names it is not.
 use borrow.Author.Needs.{needs}
 use Rattle.lxtr_command_spec.specs.Commands.{asciiFrom, ascii, commandOf}
-use Rattle.lxtr_arguments.specs.Rows.{this-row, next-row}
+use Rattle.lxtr_arguments.specs.CommandRows.{this-row, next-row}
 use Rattle.lxtr_arguments.proofs.command.Statement.{statement}
 use Rattle.lxtr_arguments.proofs.command.Tie as tie
 

@@ -1,5 +1,5 @@
 -- The two returns are the cases of the definition.
-use Rattle.lxtr_arguments.specs.Rows.{taken-right, taken-wrong}
+use Rattle.lxtr_arguments.specs.CommandRows.{taken-right, taken-wrong}
 use Rattle.lxtr_arguments.proofs.taking.Statement.{statement}
 use Rattle.lxtr_arguments.proofs.taking.Tie as tie
 

@@ -1,6 +1,6 @@
 -- 21, or what the whole list gives with cleared work, which is cleared again.
 use borrow.Author.Needs.{needs}
-use Rattle.lxtr_build.specs.Answering.{work-small, all-built}
+use Rattle.lxtr_build.specs.BuildReturns.{work-small, all-built}
 use Rattle.lxtr_build.specs.Clearing.{cleared}
 use Rattle.lxtr_build.proofs.build.Statement.{statement}
 use Rattle.lxtr_build.proofs.build.Tie as tie

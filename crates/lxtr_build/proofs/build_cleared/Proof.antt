@@ -1,6 +1,6 @@
 -- A refusal of the list, or what its keys give.
 use borrow.Author.Needs.{needs}
-use Rattle.lxtr_build.specs.Answering.{keys-refused, keys-pass, keys-built}
+use Rattle.lxtr_build.specs.BuildReturns.{keys-refused, keys-pass, keys-built}
 use Rattle.lxtr_build.proofs.build_cleared.Statement.{statement}
 use Rattle.lxtr_build.proofs.build_cleared.Tie as tie
 

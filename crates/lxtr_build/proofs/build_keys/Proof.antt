@@ -3,7 +3,7 @@ use borrow.Author.Needs.{needs}
 use mathlib.Core.Path.{sym}
 use native.Mathlib.Omega.{arith}
 use lib.Seq.{length-take-le}
-use Rattle.lxtr_build.specs.Answering.{labels-many, tables-made, labels-built}
+use Rattle.lxtr_build.specs.BuildReturns.{labels-many, tables-made, labels-built}
 use Rattle.lxtr_build.proofs.build_keys.Statement.{statement}
 use Rattle.lxtr_build.proofs.build_keys.Tie as tie
 

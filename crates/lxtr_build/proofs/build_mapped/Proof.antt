@@ -1,6 +1,6 @@
 -- 22 where some slot has no base, otherwise the image of the work that the placing filled.
 use borrow.Author.Needs.{needs}
-use Rattle.lxtr_build.specs.Answering.{placed-not, image-ready, placed-built}
+use Rattle.lxtr_build.specs.BuildReturns.{placed-not, image-ready, placed-built}
 use Rattle.lxtr_build.proofs.build_mapped.Statement.{statement}
 use Rattle.lxtr_build.proofs.build_mapped.Tie as tie
 

@@ -1,6 +1,6 @@
 -- The number of what `build` answers, and output and work as it leaves them.
 use borrow.Author.Needs.{needs}
-use Rattle.lxtr_c.specs.Entries.{build-number}
+use Rattle.lxtr_c.specs.EntryNumbers.{build-number}
 use Rattle.lxtr_c.proofs.lxtr_build.Statement.{statement}
 use Rattle.lxtr_c.proofs.lxtr_build.Tie as tie
 

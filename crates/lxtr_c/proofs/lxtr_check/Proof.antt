@@ -1,6 +1,6 @@
 -- The number of what `check` answers.
 use borrow.Author.Needs.{needs}
-use Rattle.lxtr_c.specs.Entries.{check-number}
+use Rattle.lxtr_c.specs.EntryNumbers.{check-number}
 use Rattle.lxtr_c.proofs.lxtr_check.Statement.{statement}
 use Rattle.lxtr_c.proofs.lxtr_check.Tie as tie
 

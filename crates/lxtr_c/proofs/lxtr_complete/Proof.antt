@@ -1,6 +1,6 @@
 -- The number of what `complete` answers, and the room as it leaves it.
 use borrow.Author.Needs.{needs}
-use Rattle.lxtr_c.specs.Entries.{completion-number}
+use Rattle.lxtr_c.specs.EntryNumbers.{completion-number}
 use Rattle.lxtr_c.proofs.lxtr_complete.Statement.{statement}
 use Rattle.lxtr_c.proofs.lxtr_complete.Tie as tie
 

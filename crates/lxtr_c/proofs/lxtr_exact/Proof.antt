@@ -1,6 +1,6 @@
 -- The number of what `exact` answers.
 use borrow.Author.Needs.{needs}
-use Rattle.lxtr_c.specs.Entries.{exact-number}
+use Rattle.lxtr_c.specs.EntryNumbers.{exact-number}
 use Rattle.lxtr_c.proofs.lxtr_exact.Statement.{statement}
 use Rattle.lxtr_c.proofs.lxtr_exact.Tie as tie
 

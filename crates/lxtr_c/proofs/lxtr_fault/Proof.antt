@@ -1,6 +1,6 @@
 -- The number of what `fault` answers.
 use borrow.Author.Needs.{needs}
-use Rattle.lxtr_c.specs.Entries.{fault-number}
+use Rattle.lxtr_c.specs.EntryNumbers.{fault-number}
 use Rattle.lxtr_c.proofs.lxtr_fault.Statement.{statement}
 use Rattle.lxtr_c.proofs.lxtr_fault.Tie as tie
 

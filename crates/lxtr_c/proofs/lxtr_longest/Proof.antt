@@ -2,7 +2,7 @@
 use borrow.Author.Needs.{needs}
 use native.Mathlib.Omega.{arith}
 use Rattle.lxtr_spec.specs.Labels.{maxLabels}
-use Rattle.lxtr_c.specs.Entries.{longest-fits, longest-number}
+use Rattle.lxtr_c.specs.EntryNumbers.{longest-fits, longest-number}
 use Rattle.lxtr_c.proofs.lxtr_longest.Statement.{statement}
 use Rattle.lxtr_c.proofs.lxtr_longest.Tie as tie
 

@@ -1,6 +1,6 @@
 -- The number of what `prefixes` answers. After a refusal the places stay, otherwise its words are put there.
 use borrow.Author.Needs.{needs}
-use Rattle.lxtr_c.specs.Entries.{prefixes-refused, prefixes-passed}
+use Rattle.lxtr_c.specs.EntryNumbers.{prefixes-refused, prefixes-passed}
 use Rattle.lxtr_c.proofs.lxtr_prefixes.Statement.{statement}
 use Rattle.lxtr_c.proofs.lxtr_prefixes.Tie as tie
 

@@ -1,6 +1,6 @@
 -- The number of what `probe` answers.
 use borrow.Author.Needs.{needs}
-use Rattle.lxtr_c.specs.Entries.{probe-number}
+use Rattle.lxtr_c.specs.EntryNumbers.{probe-number}
 use Rattle.lxtr_c.proofs.lxtr_probe.Statement.{statement}
 use Rattle.lxtr_c.proofs.lxtr_probe.Tie as tie
 

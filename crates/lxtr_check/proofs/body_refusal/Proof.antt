@@ -2,7 +2,7 @@
 use borrow.Author.Needs.{needs}
 use Rattle.lxtr_spec.specs.Refusals.{bodyRefusal}
 use Rattle.lxtr_laws.specs.Tests.{outcome}
-use Rattle.lxtr_laws.specs.Refusing.{chain}
+use Rattle.lxtr_laws.specs.RefusalChains.{chain}
 use Rattle.lxtr_check.proofs.body_refusal.Statement.{statement}
 use Rattle.lxtr_check.proofs.body_refusal.Tie as tie
 

@@ -1,6 +1,6 @@
 -- Each refusal stands if those before it are not there.
 use borrow.Author.Needs.{needs}
-use Rattle.lxtr_laws.specs.Searches.{search-passed}
+use Rattle.lxtr_laws.specs.SearchReturns.{search-passed}
 use Rattle.lxtr_complete.specs.Completing.{search-stands, body-stands, room-refused, completion-allowed}
 use Rattle.lxtr_complete.proofs.completion_refusal.Statement.{statement}
 use Rattle.lxtr_complete.proofs.completion_refusal.Tie as tie

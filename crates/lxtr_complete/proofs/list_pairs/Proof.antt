@@ -1,6 +1,6 @@
 -- No pairs where the walk reaches no slot, otherwise those below the slot.
 use borrow.Author.Needs.{needs}
-use Rattle.lxtr_laws.specs.Entries.{accepted-passed}
+use Rattle.lxtr_laws.specs.ListEntries.{accepted-passed}
 use Rattle.lxtr_laws.specs.Walking.{within-allowed, within-below}
 use Rattle.lxtr_complete.specs.Completing.{listed-nowhere, listed-reached}
 use Rattle.lxtr_complete.proofs.list_pairs.Statement.{statement}

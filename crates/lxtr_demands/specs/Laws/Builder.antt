@@ -19,15 +19,15 @@ use Rattle.lxtr_spec.specs.CodeMaps.{frequency, goesBefore, mapOf}
 use Rattle.lxtr_spec.specs.Builds.{buildOf}
 use Rattle.lxtr_spec.specs.Sets.{PairSet, Has, ImageOf}
 use Rattle.lxtr_spec.specs.Meaning.{Lists}
-use Rattle.lxtr_laws.specs.Ranges.{tests}
+use Rattle.lxtr_laws.specs.RangeTests.{tests}
 use Rattle.lxtr_laws.specs.Members.{member-at}
 use Rattle.lxtr_laws.specs.Lengths.{words-length}
-use Rattle.lxtr_laws.specs.Order.{before-self}
-use Rattle.lxtr_laws.specs.Steps.{none-not-some}
-use Rattle.lxtr_laws.specs.Queries.{label-count, label-read}
+use Rattle.lxtr_laws.specs.KeyOrder.{before-self}
+use Rattle.lxtr_laws.specs.StepFacts.{none-not-some}
+use Rattle.lxtr_laws.specs.QueryLabels.{label-count, label-read}
 use Rattle.lxtr_laws.specs.Sorted.{Sorted, sorted-weaker, ordered-weaker}
-use Rattle.lxtr_build_laws.specs.KeyLists.{Ascending, KeysRight}
-use Rattle.lxtr_build_laws.specs.Keys.{keys-length}
+use Rattle.lxtr_build_laws.specs.KeyListFacts.{Ascending, KeysRight}
+use Rattle.lxtr_build_laws.specs.KeyReading.{keys-length}
 use Rattle.lxtr_build_laws.specs.Passing.{list-passed}
 use Rattle.lxtr_build_laws.specs.Maps.{before-is, map-members, map-ordered}
 use Rattle.lxtr_build_laws.specs.FirstFit.{Smallest, first-fit-some, first-fit-none, fits-free}

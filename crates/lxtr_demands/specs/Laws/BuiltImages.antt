@@ -17,9 +17,9 @@ use Rattle.lxtr_spec.specs.Builds.{slotsUsed, childrenOf, childrenIn, offsetsFr
 use Rattle.lxtr_spec.specs.Sets.{Has, Listed, Framed, KeysFit, ImageOf}
 use Rattle.lxtr_laws.specs.Tests.{and-is-true, leb-is-true}
 use Rattle.lxtr_laws.specs.Members.{member-at}
-use Rattle.lxtr_laws.specs.Ranges.{concat-front}
-use Rattle.lxtr_build_laws.specs.KeyLists.{KeysRight}
-use Rattle.lxtr_build_laws.specs.Labels.{Uses}
+use Rattle.lxtr_laws.specs.RangeTests.{concat-front}
+use Rattle.lxtr_build_laws.specs.KeyListFacts.{KeysRight}
+use Rattle.lxtr_build_laws.specs.UsedLabels.{Uses}
 use Rattle.lxtr_build_laws.specs.Maps.{map-members, map-once, label-place, code-only}
 use Rattle.lxtr_build_laws.specs.PairSets.{setOf, set-members}
 use Rattle.lxtr_build_laws.specs.ChildLists.{all-mem, offsets-length, offset-at}
@@ -27,7 +27,7 @@ use Rattle.lxtr_build_laws.specs.UsedSlots.{used-low, used-high, taken-few}
 use Rattle.lxtr_build_laws.specs.Filled.{Filled}
 use Rattle.lxtr_build_laws.specs.Filling.{Filling, filled-size, filling}
 use Rattle.lxtr_build_laws.specs.FilledWork.{prefixSlot, endSlot, filled}
-use Rattle.lxtr_build_laws.specs.Counts.{children-count}
+use Rattle.lxtr_build_laws.specs.ListTotals.{children-count}
 use Rattle.lxtr_demands.specs.Laws.Sections.{Sections, SectionsRead, sections-read}
 use Rattle.lxtr_demands.specs.Laws.WorkSlots.{WordsOf, work-placed}
 use Rattle.lxtr_demands.specs.Laws.WorkLists.{startOf, ListsOf, lists-fit}

@@ -9,7 +9,7 @@ use mathlib.Core.Bool.{true}
 use Rattle.lxtr_spec.specs.Labels.{comesBefore, Pair}
 use Rattle.lxtr_spec.specs.Sets.{PairSet, Has}
 use Rattle.lxtr_spec.specs.Meaning.{labelCode, beforeByCode, CodeBefore, Lists}
-use Rattle.lxtr_laws.specs.Order.{first-or-rest, before-common, before-self, before-trans}
+use Rattle.lxtr_laws.specs.KeyOrder.{first-or-rest, before-common, before-self, before-trans}
 use Rattle.lxtr_laws.specs.Sorted.{Within, one-list}
 
 -- the code of a list's first label; 0, the code of an end, if it has none

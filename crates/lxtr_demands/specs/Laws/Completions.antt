@@ -16,7 +16,7 @@ use Rattle.lxtr_spec.specs.Completions.{pairsAt, pairsBelow, fitting, listingOf
 use Rattle.lxtr_spec.specs.Sets.{PairSet, ImageOf}
 use Rattle.lxtr_spec.specs.Meaning.{Ordered, Lists, FittingFront}
 use Rattle.lxtr_laws.specs.Faults.{parts-pass}
-use Rattle.lxtr_laws.specs.Searches.{query-passes}
+use Rattle.lxtr_laws.specs.SearchReturns.{query-passes}
 use Rattle.lxtr_demands.specs.Laws.Kinds.{KnownImage}
 use Rattle.lxtr_demands.specs.Laws.Images.{image-passes, known-image}
 use Rattle.lxtr_demands.specs.Laws.CodeOrder.{one-listing}

@@ -14,9 +14,9 @@ use Rattle.lxtr_spec.specs.Sets.{PairSet, Has}
 use Rattle.lxtr_spec.specs.Meaning.{beforeByCode, CodeBefore, Lists}
 use Rattle.lxtr_laws.specs.Facts.{UsedFrom2, unused-parent}
 use Rattle.lxtr_laws.specs.Faults.{end-is}
-use Rattle.lxtr_laws.specs.Counting.{count-of}
+use Rattle.lxtr_laws.specs.Bijections.{count-of}
 use Rattle.lxtr_laws.specs.Members.{member-at, place-of, sorted-at}
-use Rattle.lxtr_laws.specs.Keys.{prefix-key}
+use Rattle.lxtr_laws.specs.KeyPrefixes.{prefix-key}
 use Rattle.lxtr_demands.specs.Laws.Kinds.{KindIn, root, inner, leaf, unused, KnownImage}
 use Rattle.lxtr_demands.specs.Laws.Slots.{prefix-slot}
 use Rattle.lxtr_laws.specs.Sorted.{Sorted, adjacent-sorted, sorted-weaker}

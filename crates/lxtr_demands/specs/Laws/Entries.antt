@@ -9,8 +9,8 @@ use Rattle.lxtr_spec.specs.Completions.{entryPairs}
 use Rattle.lxtr_spec.specs.Sets.{PairSet, Has, Prefix, InList, ImageOf}
 use Rattle.lxtr_spec.specs.Meaning.{labelCode}
 use Rattle.lxtr_demands.specs.Laws.Codes.{listed-code}
-use Rattle.lxtr_laws.specs.Keys.{prefix-key, prefix-part}
-use Rattle.lxtr_laws.specs.Steps.{step-code}
+use Rattle.lxtr_laws.specs.KeyPrefixes.{prefix-key, prefix-part}
+use Rattle.lxtr_laws.specs.StepFacts.{step-code}
 use Rattle.lxtr_demands.specs.Laws.Kinds.{KnownImage}
 use Rattle.lxtr_demands.specs.Laws.Slots.{prefix-slot, prefix-step, end-step, ChildIn, child-is}
 

@@ -12,10 +12,10 @@ use Rattle.lxtr_spec.specs.Image.{slotCount}
 use Rattle.lxtr_spec.specs.Refusals.{imageRefusal}
 use Rattle.lxtr_spec.specs.Walks.{valueOf}
 use Rattle.lxtr_spec.specs.Sets.{PairSet, Prefix, ImageOf}
-use Rattle.lxtr_laws.specs.Ranges.{below-suc}
+use Rattle.lxtr_laws.specs.RangeTests.{below-suc}
 use Rattle.lxtr_laws.specs.Facts.{Accepted}
 use Rattle.lxtr_laws.specs.Faults.{accepted}
-use Rattle.lxtr_laws.specs.Keys.{Last, empty, snoc, last}
+use Rattle.lxtr_laws.specs.KeyPrefixes.{Last, empty, snoc, last}
 use Rattle.lxtr_demands.specs.Laws.Kinds.{KindIn, root, inner, leaf, unused, KnownImage}
 use Rattle.lxtr_demands.specs.Laws.Slots.{set-is}
 use Rattle.lxtr_demands.specs.Laws.SlotsPass.{slot-right}

@@ -13,12 +13,12 @@ use Rattle.lxtr_spec.specs.Image.{slotCount, childCount, parent, child}
 use Rattle.lxtr_spec.specs.Refusals.{isUsedFrom2, usedCount}
 use Rattle.lxtr_spec.specs.Sets.{InList, ListsFit}
 use Rattle.lxtr_laws.specs.Tests.{same-test}
-use Rattle.lxtr_laws.specs.Ranges.{any-true}
+use Rattle.lxtr_laws.specs.RangeTests.{any-true}
 use Rattle.lxtr_laws.specs.Facts.{UsedFrom2, Accepted}
 use Rattle.lxtr_laws.specs.Faults.{used-from-2}
-use Rattle.lxtr_laws.specs.Entries.{EntriesRight, entries-sorted, listed-used, accepted-entries, sorted-lists}
-use Rattle.lxtr_laws.specs.Counting.{count-same, count-of, count-filled}
-use Rattle.lxtr_laws.specs.Places.{list-of-place, children-differ}
+use Rattle.lxtr_laws.specs.ListEntries.{EntriesRight, entries-sorted, listed-used, accepted-entries, sorted-lists}
+use Rattle.lxtr_laws.specs.Bijections.{count-same, count-of, count-filled}
+use Rattle.lxtr_laws.specs.EntryPlaces.{list-of-place, children-differ}
 
 module _ {b : List ℕ} (right : EntriesRight b) where
   -- whether slot s is listed

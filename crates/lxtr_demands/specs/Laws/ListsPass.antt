@@ -14,11 +14,11 @@ use Rattle.lxtr_spec.specs.Refusals.{isUsedFrom2, usedCount}
 use Rattle.lxtr_spec.specs.Sets.{PairSet, Has, InList}
 use Rattle.lxtr_laws.specs.Facts.{UsedFrom2, EntryRight, ListsRight, ancestor, Reaches, unused-parent}
 use Rattle.lxtr_laws.specs.Faults.{used-from-2}
-use Rattle.lxtr_laws.specs.Counting.{count-of}
-use Rattle.lxtr_laws.specs.Keys.{snoc-cons, prefix-key, prefix-on}
-use Rattle.lxtr_laws.specs.Steps.{walk-ancestor}
-use Rattle.lxtr_laws.specs.Lists.{in-list}
-use Rattle.lxtr_laws.specs.Places.{ListsSorted, lists-sorted, list-of-place, in-array, children-differ}
+use Rattle.lxtr_laws.specs.Bijections.{count-of}
+use Rattle.lxtr_laws.specs.KeyPrefixes.{snoc-cons, prefix-key, prefix-on}
+use Rattle.lxtr_laws.specs.StepFacts.{walk-ancestor}
+use Rattle.lxtr_laws.specs.ListPlaces.{in-list}
+use Rattle.lxtr_laws.specs.EntryPlaces.{ListsSorted, lists-sorted, list-of-place, in-array, children-differ}
 use Rattle.lxtr_demands.specs.Laws.Kinds.{KindIn, root, inner, leaf, unused, KnownImage}
 use Rattle.lxtr_demands.specs.Laws.Entries.{ended-place, longer-place}
 use Rattle.lxtr_demands.specs.Laws.SlotsPass.{slot-right}

@@ -13,9 +13,9 @@ use Rattle.lxtr_spec.specs.Searches.{probeAnswer, probeAt}
 use Rattle.lxtr_spec.specs.Sets.{PairSet, Has, Prefix, InList}
 use Rattle.lxtr_spec.specs.Meaning.{Longer}
 use Rattle.lxtr_laws.specs.Tests.{ltb-is-true}
-use Rattle.lxtr_laws.specs.Keys.{snoc-cons, prefix-part, prefix-on}
-use Rattle.lxtr_laws.specs.Lists.{in-list}
-use Rattle.lxtr_laws.specs.Places.{lists-sorted, code-rises}
+use Rattle.lxtr_laws.specs.KeyPrefixes.{snoc-cons, prefix-part, prefix-on}
+use Rattle.lxtr_laws.specs.ListPlaces.{in-list}
+use Rattle.lxtr_laws.specs.EntryPlaces.{lists-sorted, code-rises}
 use Rattle.lxtr_demands.specs.Laws.Kinds.{KnownImage}
 use Rattle.lxtr_demands.specs.Laws.Slots.{prefix-slot, ChildIn, longer, ended}
 use Rattle.lxtr_demands.specs.Laws.Entries.{ended-code, entry-is, ended-place, longer-place}

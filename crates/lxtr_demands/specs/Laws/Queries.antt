@@ -10,8 +10,8 @@ use lib.ListN.{length, length-append}
 use Rattle.lxtr_spec.specs.Labels.{maxLabels}
 use Rattle.lxtr_spec.specs.Walks.{walkWithin, valueReached, valueOf}
 use Rattle.lxtr_spec.specs.Sets.{PairSet, Prefix}
-use Rattle.lxtr_laws.specs.Keys.{prefix-key, GoesOn}
-use Rattle.lxtr_laws.specs.Steps.{none-not-some}
+use Rattle.lxtr_laws.specs.KeyPrefixes.{prefix-key, GoesOn}
+use Rattle.lxtr_laws.specs.StepFacts.{none-not-some}
 use Rattle.lxtr_laws.specs.Walking.{within-is}
 use Rattle.lxtr_demands.specs.Laws.Kinds.{KnownImage}
 use Rattle.lxtr_demands.specs.Laws.Slots.{walk-prefix, walked, set-is}

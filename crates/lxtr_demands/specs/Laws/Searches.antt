@@ -14,10 +14,10 @@ use Rattle.lxtr_spec.specs.Walks.{walkWithin, valueReached, valueOf}
 use Rattle.lxtr_spec.specs.Searches.{queryRefusal, searchRefusal, exactValue, exactOf, lengthMatch, matchAt, matches, prefixMatches, prefixesOf, lastLength, longestLength, longestOf, probeAnswer, probeAt, probeOf}
 use Rattle.lxtr_spec.specs.Sets.{Has}
 use Rattle.lxtr_spec.specs.Meaning.{PrefixesIn, LongestIn}
-use Rattle.lxtr_laws.specs.Refusing.{none-first}
-use Rattle.lxtr_laws.specs.Steps.{none-not-some}
-use Rattle.lxtr_laws.specs.Queries.{front-labels}
-use Rattle.lxtr_laws.specs.Searches.{query-passes}
+use Rattle.lxtr_laws.specs.RefusalChains.{none-first}
+use Rattle.lxtr_laws.specs.StepFacts.{none-not-some}
+use Rattle.lxtr_laws.specs.QueryLabels.{front-labels}
+use Rattle.lxtr_laws.specs.SearchReturns.{query-passes}
 use Rattle.lxtr_laws.specs.Walking.{within, within-is}
 use Rattle.lxtr_demands.specs.Demand2.{SearchesAgree}
 use Rattle.lxtr_demands.specs.Laws.Prefixes.{prefixes-in, one-prefixes, longest-in, one-longest}

@@ -11,8 +11,8 @@ use Rattle.lxtr_spec.specs.Walks.{walk, valueOf}
 use Rattle.lxtr_spec.specs.Sets.{PairSet, Has, Prefix, Listed, ImageOf}
 use Rattle.lxtr_laws.specs.Facts.{Used, unused-parent}
 use Rattle.lxtr_demands.specs.Laws.Codes.{code-listed, listed-code, listed-same}
-use Rattle.lxtr_laws.specs.Keys.{Last, empty, snoc, last, prefix-root, prefix-key, prefix-part, prefix-on}
-use Rattle.lxtr_laws.specs.Steps.{Stepped, one-code, walk-empty, none-not-some, walk-snoc, exact-is}
+use Rattle.lxtr_laws.specs.KeyPrefixes.{Last, empty, snoc, last, prefix-root, prefix-key, prefix-part, prefix-on}
+use Rattle.lxtr_laws.specs.StepFacts.{Stepped, one-code, walk-empty, none-not-some, walk-snoc, exact-is}
 use Rattle.lxtr_demands.specs.Laws.Kinds.{KindIn, root, inner, leaf, unused, KnownImage}
 
 -- where the slot of a prefix lies

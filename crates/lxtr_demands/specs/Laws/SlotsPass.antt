@@ -10,12 +10,12 @@ use borrow.Author.Tests.{ne-eqb}
 use Rattle.lxtr_spec.specs.Image.{isLeaf, base, hasLeaf, parent, labelCount}
 use Rattle.lxtr_spec.specs.Refusals.{endExists}
 use Rattle.lxtr_spec.specs.Sets.{PairSet, Prefix}
-use Rattle.lxtr_laws.specs.Joining.{slot-of-base}
+use Rattle.lxtr_laws.specs.JoiningLaws.{slot-of-base}
 use Rattle.lxtr_laws.specs.Tests.{is-false, same-test}
 use Rattle.lxtr_laws.specs.Facts.{ZeroWords, SlotRight, unused-parent, unused-base, unused-leaf, unused-flag}
 use Rattle.lxtr_laws.specs.Faults.{end-exists, leaf-no-end}
-use Rattle.lxtr_laws.specs.Keys.{prefix-root, prefix-key, prefix-part}
-use Rattle.lxtr_laws.specs.Steps.{Stepped, one-code, own-code}
+use Rattle.lxtr_laws.specs.KeyPrefixes.{prefix-root, prefix-key, prefix-part}
+use Rattle.lxtr_laws.specs.StepFacts.{Stepped, one-code, own-code}
 use Rattle.lxtr_demands.specs.Laws.Kinds.{KindIn, root, inner, leaf, unused, KnownImage}
 use Rattle.lxtr_demands.specs.Laws.Slots.{prefix-slot, prefix-step, end-step, ChildIn, longer, ended, child-is}
 

@@ -15,8 +15,8 @@ use Rattle.lxtr_spec.specs.Sets.{Has, Prefix, KeysFit, Placed}
 use Rattle.lxtr_laws.specs.Facts.{UsedFrom2, Accepted}
 use Rattle.lxtr_laws.specs.Faults.{end-exists, leaf-no-end}
 use Rattle.lxtr_demands.specs.Laws.Codes.{code-listed, listed-code}
-use Rattle.lxtr_laws.specs.Keys.{snoc-cons, prefix-root, prefix-part}
-use Rattle.lxtr_laws.specs.Steps.{walk-empty, some-same, none-not-some}
+use Rattle.lxtr_laws.specs.KeyPrefixes.{snoc-cons, prefix-root, prefix-part}
+use Rattle.lxtr_laws.specs.StepFacts.{walk-empty, some-same, none-not-some}
 use Rattle.lxtr_demands.specs.Laws.Lists.{lists-fit}
 use Rattle.lxtr_demands.specs.Laws.Walks.{WalkSlot, root-parent, has-parent, step-used, step-leaf, child-depth, leaf-child, inner-child, on-to-key, parent-walk}
 use Rattle.lxtr_demands.specs.Laws.WalkSlots.{slotAt, endAt, walk-slot, root-slot, prefix-walk, prefix-step, key-walk, key-valued, end-is, end-step, end-leaf, prefix-reached, key-reached, walk-once}

@@ -12,8 +12,8 @@ use Rattle.lxtr_spec.specs.Walks.{walk, valueOf}
 use Rattle.lxtr_spec.specs.Sets.{Has, Prefix}
 use Rattle.lxtr_laws.specs.Facts.{Accepted}
 use Rattle.lxtr_demands.specs.Laws.Codes.{code-listed, listed-same}
-use Rattle.lxtr_laws.specs.Keys.{Last, empty, snoc, last, prefix-key, GoesOn}
-use Rattle.lxtr_laws.specs.Steps.{walk-empty, one-code, Stepped, Valued, walk-append, walk-snoc, exact-is}
+use Rattle.lxtr_laws.specs.KeyPrefixes.{Last, empty, snoc, last, prefix-key, GoesOn}
+use Rattle.lxtr_laws.specs.StepFacts.{walk-empty, one-code, Stepped, Valued, walk-append, walk-snoc, exact-is}
 use Rattle.lxtr_demands.specs.Laws.Walks.{WalkSlot, reached, root-parent}
 
 unfoldable pub slotAt : List ℕ → List ℕ → ℕ

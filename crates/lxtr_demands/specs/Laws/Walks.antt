@@ -16,13 +16,13 @@ use Rattle.lxtr_spec.specs.Image.{slotFrom, slotCount, isLeaf, parent, base, va
 use Rattle.lxtr_spec.specs.Refusals.{ownCode}
 use Rattle.lxtr_spec.specs.Walks.{walk, valueOf}
 use Rattle.lxtr_spec.specs.Sets.{Has, Listed}
-use Rattle.lxtr_laws.specs.Joining.{slot-by-code, slot-of-base}
+use Rattle.lxtr_laws.specs.JoiningLaws.{slot-by-code, slot-of-base}
 use Rattle.lxtr_laws.specs.Facts.{UsedFrom2, Used, UsedRight, EntryRight, ancestor, Accepted, unused-parent}
 use Rattle.lxtr_laws.specs.Faults.{end-exists}
 use Rattle.lxtr_demands.specs.Laws.Codes.{code-listed, listed-code}
-use Rattle.lxtr_laws.specs.Keys.{Last, empty, snoc, last, length-snoc, GoesOn}
-use Rattle.lxtr_laws.specs.Steps.{Stepped, own-code, walk-ancestor, walk-empty, walk-snoc, exact-is}
-use Rattle.lxtr_laws.specs.Lists.{in-list}
+use Rattle.lxtr_laws.specs.KeyPrefixes.{Last, empty, snoc, last, length-snoc, GoesOn}
+use Rattle.lxtr_laws.specs.StepFacts.{Stepped, own-code, walk-ancestor, walk-empty, walk-snoc, exact-is}
+use Rattle.lxtr_laws.specs.ListPlaces.{in-list}
 use Rattle.lxtr_demands.specs.Laws.Kinds.{}
 
 -- a slot that a walk comes to

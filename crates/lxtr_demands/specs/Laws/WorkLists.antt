@@ -11,7 +11,7 @@ use Rattle.lxtr_spec.specs.Placing.{baseAt, checkAt}
 use Rattle.lxtr_spec.specs.Builds.{childrenOf, childrenIn}
 use Rattle.lxtr_spec.specs.Sets.{InList, ListsFit}
 use Rattle.lxtr_laws.specs.Members.{member-at, place-of, sorted-at}
-use Rattle.lxtr_laws.specs.Ranges.{concat-front}
+use Rattle.lxtr_laws.specs.RangeTests.{concat-front}
 use Rattle.lxtr_laws.specs.Runs.{run-entry, run-more}
 use Rattle.lxtr_build_laws.specs.ChildLists.{ListedChild, TakenListed, CodeBelow, list-mem, list-has, list-sorted, list-of-zero}
 use Rattle.lxtr_demands.specs.Laws.WorkSlots.{WordsOf, parent-of, base-of-inner}

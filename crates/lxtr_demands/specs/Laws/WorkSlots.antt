@@ -10,8 +10,8 @@ use Rattle.lxtr_spec.specs.Joining.{slotUnder}
 use Rattle.lxtr_spec.specs.Image.{slotCount, baseWord, checkWord, topBit, low31, isLeaf, hasLeaf, parent, base, valueNumber, slotFrom}
 use Rattle.lxtr_spec.specs.Placing.{baseAt, checkAt}
 use Rattle.lxtr_spec.specs.Sets.{PairSet, Has, Prefix, Listed, Placed}
-use Rattle.lxtr_laws.specs.Keys.{prefix-root, prefix-key, prefix-part}
-use Rattle.lxtr_build_laws.specs.Slots.{parentAt}
+use Rattle.lxtr_laws.specs.KeyPrefixes.{prefix-root, prefix-key, prefix-part}
+use Rattle.lxtr_build_laws.specs.SlotWords.{parentAt}
 use Rattle.lxtr_build_laws.specs.Filled.{WorkSlot, of-prefix, of-end, of-none, Filled}
 
 -- the bytes b have the words of the first N slots of w

@@ -3,7 +3,7 @@ use borrow.Author.Needs.{needs}
 use native.Mathlib.Omega.{arith}
 use borrow.Author.Tests.{lt-ltb, le-ltb}
 use Rattle.lxtr_spec.specs.Refusals.{tooShort, headerRefusal}
-use Rattle.lxtr_laws.specs.Refusing.{chain}
+use Rattle.lxtr_laws.specs.RefusalChains.{chain}
 use Rattle.lxtr_laws.specs.Passed.{sized-by}
 use Rattle.lxtr_header.proofs.header_refusal.Statement.{statement}
 use Rattle.lxtr_header.proofs.header_refusal.Tie as tie

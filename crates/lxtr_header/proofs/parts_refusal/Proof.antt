@@ -1,6 +1,6 @@
 -- Each return is a chain of faults that are not there, ended by one that is; what the tests so far leave known is what the next one reads.
 use borrow.Author.Needs.{needs}
-use Rattle.lxtr_laws.specs.Refusing.{chain}
+use Rattle.lxtr_laws.specs.RefusalChains.{chain}
 use Rattle.lxtr_laws.specs.Passed.{whole-by}
 use Rattle.lxtr_header.proofs.parts_refusal.Statement.{statement}
 use Rattle.lxtr_header.proofs.parts_refusal.Tie as tie

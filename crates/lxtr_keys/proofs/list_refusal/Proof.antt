@@ -1,6 +1,6 @@
--- Each return is one of the laws of `Refusing`: a list too short, of another version, of too many keys, or as its keys decide.
+-- Each return is one of the laws of `KeyRefusals`: a list too short, of another version, of too many keys, or as its keys decide.
 use borrow.Author.Needs.{needs}
-use Rattle.lxtr_keys.specs.Refusing.{list-short, list-version, list-many, list-keys}
+use Rattle.lxtr_keys.specs.KeyRefusals.{list-short, list-version, list-many, list-keys}
 use Rattle.lxtr_keys.proofs.list_refusal.Statement.{statement}
 use Rattle.lxtr_keys.proofs.list_refusal.Tie as tie
 

@@ -1,6 +1,6 @@
 -- A refusal alone, or the value and no refusal.
 use borrow.Author.Needs.{needs}
-use Rattle.lxtr_laws.specs.Searches.{search-passed, exact-refused, exact-passed}
+use Rattle.lxtr_laws.specs.SearchReturns.{search-passed, exact-refused, exact-passed}
 use Rattle.lxtr_search.proofs.exact.Statement.{statement}
 use Rattle.lxtr_search.proofs.exact.Tie as tie
 

@@ -1,7 +1,7 @@
 -- The value where the walk ends, if it reaches a slot.
 use borrow.Author.Needs.{needs}
 use Rattle.lxtr_laws.specs.Walking.{within-below}
-use Rattle.lxtr_laws.specs.Searches.{exact-nowhere, exact-reached}
+use Rattle.lxtr_laws.specs.SearchReturns.{exact-nowhere, exact-reached}
 use Rattle.lxtr_search.proofs.exact_value.Statement.{statement}
 use Rattle.lxtr_search.proofs.exact_value.Tie as tie
 

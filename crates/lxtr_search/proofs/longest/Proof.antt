@@ -1,7 +1,7 @@
 -- A refusal and the empty part, or the part as long as the last match, which lies within the query.
 use borrow.Author.Needs.{needs}
 use Rattle.lxtr_search.specs.Kept.{longest-part}
-use Rattle.lxtr_laws.specs.Searches.{search-passed, longest-refused, longest-passed}
+use Rattle.lxtr_laws.specs.SearchReturns.{search-passed, longest-refused, longest-passed}
 use Rattle.lxtr_search.proofs.longest.Statement.{statement}
 use Rattle.lxtr_search.proofs.longest.Tie as tie
 

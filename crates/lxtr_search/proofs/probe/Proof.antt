@@ -1,7 +1,7 @@
 -- A refusal alone; none and no where the walk fails; otherwise what is found at its slot.
 use borrow.Author.Needs.{needs}
 use Rattle.lxtr_laws.specs.Walking.{within-below}
-use Rattle.lxtr_laws.specs.Searches.{search-passed, probe-refused, probe-nowhere, probe-reached}
+use Rattle.lxtr_laws.specs.SearchReturns.{search-passed, probe-refused, probe-nowhere, probe-reached}
 use Rattle.lxtr_search.proofs.probe.Statement.{statement}
 use Rattle.lxtr_search.proofs.probe.Tie as tie
 

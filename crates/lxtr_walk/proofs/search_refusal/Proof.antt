@@ -1,6 +1,6 @@
 -- A refusal of the header stands; otherwise 13 or none.
 use borrow.Author.Needs.{needs}
-use Rattle.lxtr_laws.specs.Searches.{header-stands, query-refused, search-allowed}
+use Rattle.lxtr_laws.specs.SearchReturns.{header-stands, query-refused, search-allowed}
 use Rattle.lxtr_walk.proofs.search_refusal.Statement.{statement}
 use Rattle.lxtr_walk.proofs.search_refusal.Tie as tie
 

@@ -1,6 +1,6 @@
 -- The first problem of a line, or what the words of all lines give.
 use borrow.Author.Needs.{needs}
-use Rattle.lxtr_words.specs.Answering.{problem-found, lines-right, lines-listed}
+use Rattle.lxtr_words.specs.ListReturns.{problem-found, lines-right, lines-listed}
 use Rattle.lxtr_words.proofs.key_list.Statement.{statement}
 use Rattle.lxtr_words.proofs.key_list.Tie as tie
 

@@ -2,7 +2,7 @@
 use borrow.Author.Needs.{needs}
 use mathlib.Core.Path.{sym}
 use lib.Seq.{length-take-le}
-use Rattle.lxtr_words.specs.Answering.{words-many, words-few, words-listed}
+use Rattle.lxtr_words.specs.ListReturns.{words-many, words-few, words-listed}
 use Rattle.lxtr_words.proofs.list_lines.Statement.{statement}
 use Rattle.lxtr_words.proofs.list_lines.Tie as tie
 

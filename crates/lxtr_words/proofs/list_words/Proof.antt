@@ -1,6 +1,6 @@
 -- The key list, if there is room for it.
 use borrow.Author.Needs.{needs}
-use Rattle.lxtr_words.specs.Answering.{list-short, list-room, list-done}
+use Rattle.lxtr_words.specs.ListReturns.{list-short, list-room, list-done}
 use Rattle.lxtr_words.proofs.list_words.Statement.{statement}
 use Rattle.lxtr_words.proofs.list_words.Tie as tie
 

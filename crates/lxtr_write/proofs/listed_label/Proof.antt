@@ -1,6 +1,6 @@
 -- The order gives a place of the table, where the label is.
 use borrow.Author.Needs.{needs}
-use Rattle.lxtr_write.specs.Writing.{place-fits, place-scaled, place-inside, label-listed}
+use Rattle.lxtr_write.specs.SectionWriting.{place-fits, place-scaled, place-inside, label-listed}
 use Rattle.lxtr_write.proofs.listed_label.Statement.{statement}
 use Rattle.lxtr_write.proofs.listed_label.Tie as tie
 

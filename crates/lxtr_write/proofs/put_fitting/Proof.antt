@@ -1,8 +1,8 @@
 -- The size is the length of the image: too much for the output, or the image is written.
 use borrow.Author.Needs.{needs}
 use native.Mathlib.Omega.{arith}
-use Rattle.lxtr_write.specs.Writing.{image-length}
-use Rattle.lxtr_write.specs.Answers.{image-short, image-fits}
+use Rattle.lxtr_write.specs.SectionWriting.{image-length}
+use Rattle.lxtr_write.specs.WriteOutcomes.{image-short, image-fits}
 use Rattle.lxtr_write.proofs.put_fitting.Statement.{statement}
 use Rattle.lxtr_write.proofs.put_fitting.Tie as tie
 

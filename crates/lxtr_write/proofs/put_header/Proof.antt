@@ -1,6 +1,6 @@
 -- `LXTR` and five numbers, each behind what is written before it.
 use borrow.Author.Needs.{needs}
-use Rattle.lxtr_write.specs.Writing.{header-put}
+use Rattle.lxtr_write.specs.SectionWriting.{header-put}
 use Rattle.lxtr_write.proofs.put_header.Statement.{statement}
 use Rattle.lxtr_write.proofs.put_header.Tie as tie
 

@@ -1,7 +1,7 @@
 -- N and E are those of the definitions.
 use borrow.Author.Needs.{needs}
-use Rattle.lxtr_write.specs.Writing.{slots-enough, slots-inside, slots-of-image, children-counted}
-use Rattle.lxtr_write.specs.Answers.{image-answered}
+use Rattle.lxtr_write.specs.SectionWriting.{slots-enough, slots-inside, slots-of-image, children-counted}
+use Rattle.lxtr_write.specs.WriteOutcomes.{image-answered}
 use Rattle.lxtr_write.proofs.put_image.Statement.{statement}
 use Rattle.lxtr_write.proofs.put_image.Tie as tie
 

@@ -7,7 +7,7 @@ use Rattle.lxtr_spec.specs.Numbers.{beWords}
 use Rattle.lxtr_laws.specs.ByteOrders.{big}
 use Rattle.lxtr_laws.specs.Overlays.{WordsIn, words-start}
 use Rattle.lxtr_build_laws.specs.CodeTables.{picked}
-use Rattle.lxtr_write.specs.Writing.{label-next, labels-end}
+use Rattle.lxtr_write.specs.SectionWriting.{label-next, labels-end}
 use Rattle.lxtr_write.proofs.put_labels.Statement.{statement}
 use Rattle.lxtr_write.proofs.put_labels.Tie as tie
 

@@ -1,6 +1,6 @@
 -- Version and count, and the labels behind them.
 use borrow.Author.Needs.{needs}
-use Rattle.lxtr_write.specs.Writing.{map-put}
+use Rattle.lxtr_write.specs.SectionWriting.{map-put}
 use Rattle.lxtr_write.proofs.put_map.Statement.{statement}
 use Rattle.lxtr_write.proofs.put_map.Tie as tie
 

@@ -7,7 +7,7 @@ use Rattle.lxtr_spec.specs.Numbers.{leWords}
 use Rattle.lxtr_spec.specs.Image.{nodesAt}
 use Rattle.lxtr_laws.specs.ByteOrders.{little}
 use Rattle.lxtr_laws.specs.Overlays.{WordsIn, words-start}
-use Rattle.lxtr_write.specs.Writing.{nodes-next, nodes-end}
+use Rattle.lxtr_write.specs.SectionWriting.{nodes-next, nodes-end}
 use Rattle.lxtr_write.proofs.put_nodes.Statement.{statement}
 use Rattle.lxtr_write.proofs.put_nodes.Tie as tie
 

@@ -1,6 +1,6 @@
 -- Each section is written behind the one before it.
 use borrow.Author.Needs.{needs}
-use Rattle.lxtr_write.specs.Writing.{image-put}
+use Rattle.lxtr_write.specs.SectionWriting.{image-put}
 use Rattle.lxtr_write.proofs.put_sections.Statement.{statement}
 use Rattle.lxtr_write.proofs.put_sections.Tie as tie
 

@@ -2,7 +2,7 @@
 use borrow.Author.Needs.{needs}
 use mathlib.Core.Path.{sym}
 use lib.Seq.{length-take-le}
-use Rattle.lxtr_build_laws.specs.Answers.{built-within}
+use Rattle.lxtr_build_laws.specs.BuiltAnswers.{built-within}
 use Rattle.lxtr.proofs.makers.build_into.Statement.{statement}
 use Rattle.lxtr.proofs.makers.build_into.Tie as tie
 

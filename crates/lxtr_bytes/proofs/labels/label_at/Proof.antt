@@ -1,6 +1,6 @@
 -- The bytes of label i lie at 4 * i, within the query.
 use native.Mathlib.Omega.{arith}
-use Rattle.lxtr_laws.specs.Queries.{label-within, label-read}
+use Rattle.lxtr_laws.specs.QueryLabels.{label-within, label-read}
 use Rattle.lxtr_bytes.proofs.labels.label_at.Statement.{statement}
 use Rattle.lxtr_bytes.proofs.labels.label_at.Tie as tie
 

@@ -1,6 +1,6 @@
 -- The law `label-count`.
 use mathlib.Core.Path.{sym}
-use Rattle.lxtr_laws.specs.Queries.{label-count}
+use Rattle.lxtr_laws.specs.QueryLabels.{label-count}
 use Rattle.lxtr_bytes.proofs.labels.label_count.Statement.{statement}
 use Rattle.lxtr_bytes.proofs.labels.label_count.Tie as tie
 

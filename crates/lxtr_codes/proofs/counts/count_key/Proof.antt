@@ -3,8 +3,8 @@ use borrow.Author.Needs.{needs}
 use Prim.Native.Nat.{_-_}
 use lib.ListN.{take}
 use Rattle.lxtr_spec.specs.KeyLists.{keyAt}
-use Rattle.lxtr_build_laws.specs.Keys.{label-inside}
-use Rattle.lxtr_codes.specs.Counting.{KeyCounted, key-start, key-inside, key-small, key-next, key-end}
+use Rattle.lxtr_build_laws.specs.KeyReading.{label-inside}
+use Rattle.lxtr_codes.specs.LabelCounting.{KeyCounted, key-start, key-inside, key-small, key-next, key-end}
 use Rattle.lxtr_codes.proofs.counts.count_key.Statement.{statement}
 use Rattle.lxtr_codes.proofs.counts.count_key.Tie as tie
 

@@ -3,8 +3,8 @@ use borrow.Author.Needs.{needs}
 use Prim.Native.Nat.{_-_}
 use mathlib.Core.Path.{_≡_}
 use lib.ListN.{length}
-use Rattle.lxtr_build_laws.specs.Keys.{whole-here, key-starts}
-use Rattle.lxtr_codes.specs.Counting.{Counting, counting-start, counting-able, counting-next, counting-end}
+use Rattle.lxtr_build_laws.specs.KeyReading.{whole-here, key-starts}
+use Rattle.lxtr_codes.specs.LabelCounting.{Counting, counting-start, counting-able, counting-next, counting-end}
 use Rattle.lxtr_codes.proofs.counts.count_keys.Statement.{statement}
 use Rattle.lxtr_codes.proofs.counts.count_keys.Tie as tie
 

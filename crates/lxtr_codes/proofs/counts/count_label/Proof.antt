@@ -1,6 +1,6 @@
 -- A label that the key has counted is left; the count of another goes up by one, and stays small.
 use borrow.Author.Needs.{needs}
-use Rattle.lxtr_codes.specs.Counting.{count-again, count-fits, count-new}
+use Rattle.lxtr_codes.specs.LabelCounting.{count-again, count-fits, count-new}
 use Rattle.lxtr_codes.proofs.counts.count_label.Statement.{statement}
 use Rattle.lxtr_codes.proofs.counts.count_label.Tie as tie
 

@@ -2,8 +2,8 @@
 use borrow.Author.Needs.{needs}
 use Prim.Native.Nat.{_-_}
 use mathlib.Core.Path.{refl}
-use Rattle.lxtr_build_laws.specs.Keys.{label-inside, label-before}
-use Rattle.lxtr_codes.specs.Counting.{Earlier, earlier-found, earlier-next, earlier-none}
+use Rattle.lxtr_build_laws.specs.KeyReading.{label-inside, label-before}
+use Rattle.lxtr_codes.specs.LabelCounting.{Earlier, earlier-found, earlier-next, earlier-none}
 use Rattle.lxtr_codes.proofs.counts.stands_earlier.Statement.{statement}
 use Rattle.lxtr_codes.proofs.counts.stands_earlier.Tie as tie
 

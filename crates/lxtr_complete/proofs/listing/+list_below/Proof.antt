@@ -6,8 +6,8 @@ use borrow.Author.Needs.{needs}
 use borrow.Fn.Kinds.{In}
 use borrow.Fn.PlainCycle.{Measures, is, falls, and}
 use Rattle.lxtr_spec.specs.Labels.{maxLabels}
-use Rattle.lxtr_laws.specs.Entries.{accepted-passed, accepted-whole}
-use Rattle.lxtr_complete.specs.Writing.{state}
+use Rattle.lxtr_laws.specs.ListEntries.{accepted-passed, accepted-whole}
+use Rattle.lxtr_complete.specs.RecordWriting.{state}
 use Rattle.lxtr_complete.specs.Listing.{ListedSoFar, list-none, kept-none, end-ready, going-start, going-end, going-stopped, going-kept, going-room, going-place, going-code, going-below, going-on}
 use Rattle.lxtr_complete.proofs.listing.list_below.Reads as list-below
 use Rattle.lxtr_complete.proofs.listing.list_below.Kinds as list-below-kinds

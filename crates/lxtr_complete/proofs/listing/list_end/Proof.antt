@@ -1,7 +1,7 @@
 -- The end is the first entry; its value goes behind the labels, and the record is put.
 use borrow.Author.Needs.{needs}
 use Rattle.lxtr_spec.specs.Labels.{maxLabels}
-use Rattle.lxtr_laws.specs.Entries.{accepted-whole, place-below, child-below}
+use Rattle.lxtr_laws.specs.ListEntries.{accepted-whole, place-below, child-below}
 use Rattle.lxtr_complete.specs.Listing.{end-none, end-place, end-put, ready-set, kept-none, kept-set}
 use Rattle.lxtr_complete.proofs.listing.list_end.Statement.{statement}
 use Rattle.lxtr_complete.proofs.listing.list_end.Tie as tie

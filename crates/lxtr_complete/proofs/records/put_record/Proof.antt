@@ -4,7 +4,7 @@ use mathlib.Core.Path.{_∙_}
 use native.Mathlib.Omega.{arith}
 use lib.ListN.{length-set}
 use Rattle.lxtr_spec.specs.Labels.{maxLabels}
-use Rattle.lxtr_complete.specs.Writing.{record-in, record-not}
+use Rattle.lxtr_complete.specs.RecordWriting.{record-in, record-not}
 use Rattle.lxtr_complete.proofs.records.put_record.Statement.{statement}
 use Rattle.lxtr_complete.proofs.records.put_record.Tie as tie
 

@@ -4,7 +4,7 @@ use Prim.Native.Nat.{_*_, _/_, _-_, min}
 use mathlib.Core.Path.{_≡_}
 use lib.ListN.{length}
 use Rattle.lxtr_spec.specs.Labels.{maxLabels, lengthCount}
-use Rattle.lxtr_host.specs.Places.{WordsIn, words-start, words-end, value-room, pair-next, length-end}
+use Rattle.lxtr_host.specs.PlaceWords.{WordsIn, words-start, words-end, value-room, pair-next, length-end}
 use Rattle.lxtr_host.proofs.places.put_places.Statement.{statement}
 use Rattle.lxtr_host.proofs.places.put_places.Tie as tie
 

@@ -1,9 +1,9 @@
--- Invariant: the code of the label is what the search of the places from i on gives. Each turn is one of the laws of `Codes`.
+-- Invariant: the code of the label is what the search of the places from i on gives. Each turn is one of the laws of `CodeSearch`.
 use borrow.Author.Needs.{needs}
 use Prim.Native.Nat.{_≤_, _-_}
 use mathlib.Core.Path.{_≡_}
 use Rattle.lxtr_spec.specs.Image.{labelCount, codeFrom}
-use Rattle.lxtr_image.specs.Codes.{code-start, code-hit, code-miss, code-end}
+use Rattle.lxtr_image.specs.CodeSearch.{code-start, code-hit, code-miss, code-end}
 use Rattle.lxtr_image.proofs.code_map.code_from.Statement.{statement}
 use Rattle.lxtr_image.proofs.code_map.code_from.Tie as tie
 

@@ -4,7 +4,7 @@ use borrow.Author.Needs.{needs}
 use Prim.Native.Nat.{_≤_, _-_}
 use mathlib.Core.Path.{_≡_}
 use Rattle.lxtr_spec.specs.Image.{labelCount, codeFrom, codeOf}
-use Rattle.lxtr_image.specs.Codes.{code-all, code-rest}
+use Rattle.lxtr_image.specs.CodeSearch.{code-all, code-rest}
 use Rattle.lxtr_image.specs.Blocks.{block-found, block-passed}
 use Rattle.lxtr_image.proofs.code_map.code_of.Statement.{statement}
 use Rattle.lxtr_image.proofs.code_map.code_of.Tie as tie

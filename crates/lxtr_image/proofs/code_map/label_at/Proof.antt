@@ -1,6 +1,6 @@
 -- The map ends the image, and has L labels after its first 5 bytes.
 use borrow.Author.Needs.{needs}
-use Rattle.lxtr_image.specs.Codes.{label-from-end}
+use Rattle.lxtr_image.specs.CodeSearch.{label-from-end}
 use Rattle.lxtr_image.proofs.code_map.label_at.Statement.{statement}
 use Rattle.lxtr_image.proofs.code_map.label_at.Tie as tie
 

@@ -1,8 +1,8 @@
 -- Invariant: the first labels of both keys are the same, so that what comes after them decides.
 use borrow.Author.Needs.{needs}
 use Prim.Native.Nat.{_-_}
-use Rattle.lxtr_build_laws.specs.Keys.{label-inside}
-use Rattle.lxtr_keys.specs.Refusing.{Comparing, compare-start, compare-end, compare-past, compare-differ, compare-next}
+use Rattle.lxtr_build_laws.specs.KeyReading.{label-inside}
+use Rattle.lxtr_keys.specs.KeyRefusals.{Comparing, compare-start, compare-end, compare-past, compare-differ, compare-next}
 use Rattle.lxtr_keys.proofs.refusals.comes_before.Statement.{statement}
 use Rattle.lxtr_keys.proofs.refusals.comes_before.Tie as tie
 

@@ -1,7 +1,7 @@
 -- Invariant: no key before this one is refused, so that the rest of the list decides.
 use borrow.Author.Needs.{needs}
 use Prim.Native.Nat.{_-_}
-use Rattle.lxtr_keys.specs.Refusing.{RestDecides, keys-start, key-refused, key-there, keys-next, left-over, keys-right}
+use Rattle.lxtr_keys.specs.KeyRefusals.{RestDecides, keys-start, key-refused, key-there, keys-next, left-over, keys-right}
 use Rattle.lxtr_keys.proofs.refusals.keys_refusal.Statement.{statement}
 use Rattle.lxtr_keys.proofs.refusals.keys_refusal.Tie as tie
 

@@ -1,7 +1,7 @@
 -- The label lies within the list; the test is that of the definition.
 use borrow.Author.Needs.{needs}
 use Rattle.lxtr_spec.specs.KeyLists.{noScalarAt}
-use Rattle.lxtr_build_laws.specs.Keys.{label-inside}
+use Rattle.lxtr_build_laws.specs.KeyReading.{label-inside}
 use Rattle.lxtr_keys.proofs.refusals.no_scalar_at.Statement.{statement}
 use Rattle.lxtr_keys.proofs.refusals.no_scalar_at.Tie as tie
 

@@ -1,6 +1,6 @@
 -- Key 0 has no key before it; from key 1 on there is one to compare with.
 use borrow.Author.Needs.{needs}
-use Rattle.lxtr_keys.specs.Refusing.{first-above, before-whole, later-above}
+use Rattle.lxtr_keys.specs.KeyRefusals.{first-above, before-whole, later-above}
 use Rattle.lxtr_keys.proofs.refusals.not_above.Statement.{statement}
 use Rattle.lxtr_keys.proofs.refusals.not_above.Tie as tie
 

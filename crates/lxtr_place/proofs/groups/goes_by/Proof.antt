@@ -1,6 +1,6 @@
 -- A key that is used up goes on by no label; another by its next one.
 use borrow.Author.Needs.{needs}
-use Rattle.lxtr_build_laws.specs.Keys.{label-inside}
+use Rattle.lxtr_build_laws.specs.KeyReading.{label-inside}
 use Rattle.lxtr_place.specs.GroupLoops.{goes-end, goes-on}
 use Rattle.lxtr_place.proofs.groups.goes_by.Statement.{statement}
 use Rattle.lxtr_place.proofs.groups.goes_by.Tie as tie

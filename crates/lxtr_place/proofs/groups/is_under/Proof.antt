@@ -1,6 +1,6 @@
 -- A key that is used up is under x; another goes by its next label.
 use borrow.Author.Needs.{needs}
-use Rattle.lxtr_build_laws.specs.Keys.{label-inside}
+use Rattle.lxtr_build_laws.specs.KeyReading.{label-inside}
 use Rattle.lxtr_place.specs.GroupLoops.{under-end, under-on}
 use Rattle.lxtr_place.proofs.groups.is_under.Statement.{statement}
 use Rattle.lxtr_place.proofs.groups.is_under.Tie as tie

@@ -1,7 +1,7 @@
 -- The first i keys go on by x; the run of the others makes the whole.
 use borrow.Author.Needs.{needs}
 use Prim.Native.Nat.{_-_}
-use Rattle.lxtr_build_laws.specs.Keys.{whole-here, key-starts}
+use Rattle.lxtr_build_laws.specs.KeyReading.{whole-here, key-starts}
 use Rattle.lxtr_place.specs.GroupLoops.{Running, running-start, running-turn, running-stop, running-end}
 use Rattle.lxtr_place.proofs.groups.run_of.Statement.{statement}
 use Rattle.lxtr_place.proofs.groups.run_of.Tie as tie

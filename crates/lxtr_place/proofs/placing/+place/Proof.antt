@@ -10,8 +10,8 @@ use borrow.Fn.Kinds.{In}
 use borrow.Fn.PlainCycle.{Measures, is, falls, and}
 use Rattle.lxtr_spec.specs.Labels.{maxLabels}
 use Rattle.lxtr_build_laws.specs.CodeTables.{codeBy, labelBy}
-use Rattle.lxtr_place.specs.Groups.{groupOf}
-use Rattle.lxtr_place.specs.Codes.{front-size}
+use Rattle.lxtr_place.specs.GroupRanges.{groupOf}
+use Rattle.lxtr_place.specs.GatheredCodes.{front-size}
 use Rattle.lxtr_place.specs.Turns.{Going, no-label-left, none-fits}
 use Rattle.lxtr_place.specs.Within.{Within, within, codes-fit, codes-inside, code-fits, code-inside, next-fits, loop-first, work-size, room-size, loop-end, past-end, child-asked, child-called, child-placed, child-refused}
 use Rattle.lxtr_place.proofs.placing.place.Reads as place

@@ -1,7 +1,7 @@
 -- The value is that of the key that ends here.
 use borrow.Author.Needs.{needs}
 use Rattle.lxtr_place.specs.GroupLoops.{value-small}
-use Rattle.lxtr_place.specs.Settling.{settle-as}
+use Rattle.lxtr_place.specs.SettlingWords.{settle-as}
 use Rattle.lxtr_place.proofs.placing.settle_group.Statement.{statement}
 use Rattle.lxtr_place.proofs.placing.settle_group.Tie as tie
 

@@ -2,7 +2,7 @@
 use borrow.Author.Needs.{needs}
 use native.Mathlib.Omega.{arith}
 use lib.ListN.{length-set}
-use Rattle.lxtr_place.specs.Settling.{child-put, end-put}
+use Rattle.lxtr_place.specs.SettlingWords.{child-put, end-put}
 use Rattle.lxtr_place.proofs.settling.put_child.Statement.{statement}
 use Rattle.lxtr_place.proofs.settling.put_child.Tie as tie
 

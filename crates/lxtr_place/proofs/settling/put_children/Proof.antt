@@ -2,7 +2,7 @@
 use borrow.Author.Needs.{needs}
 use Prim.Native.Nat.{_-_}
 use lib.ListN.{length}
-use Rattle.lxtr_place.specs.Settling.{PutSoFar, put-start, put-inside, put-next, put-end}
+use Rattle.lxtr_place.specs.SettlingWords.{PutSoFar, put-start, put-inside, put-next, put-end}
 use Rattle.lxtr_place.proofs.settling.put_children.Statement.{statement}
 use Rattle.lxtr_place.proofs.settling.put_children.Tie as tie
 

@@ -7,7 +7,7 @@ use lib.ListN.{replicate}
 use Rattle.lxtr_spec.specs.Labels.{maxLabels, lengthCount}
 use Rattle.lxtr_spec.specs.Searches.{prefixesAnswer}
 use Rattle.lxtr_spec.specs.declared.Prefixes.{Prefixes}
-use Rattle.lxtr_laws.specs.Searches.{search-passed, prefixes-refused, prefixes-passed}
+use Rattle.lxtr_laws.specs.SearchReturns.{search-passed, prefixes-refused, prefixes-passed}
 use Rattle.lxtr_search.specs.Kept.{filled}
 use Rattle.lxtr_search.proofs.matches.put_prefixes.Statement.{statement}
 use Rattle.lxtr_search.proofs.matches.put_prefixes.Tie as tie

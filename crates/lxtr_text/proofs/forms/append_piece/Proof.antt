@@ -1,6 +1,6 @@
 -- The returns are the cases of the definition.
 use borrow.Author.Needs.{needs}
-use Rattle.lxtr_text.specs.Forms.{percent, dollar, commercial-at, itself}
+use Rattle.lxtr_text.specs.FormLoops.{percent, dollar, commercial-at, itself}
 use Rattle.lxtr_text.proofs.forms.append_piece.Statement.{statement}
 use Rattle.lxtr_text.proofs.forms.append_piece.Tie as tie
 

@@ -3,7 +3,7 @@ use borrow.Author.Needs.{needs}
 use Prim.Native.Nat.{_-_}
 use native.Mathlib.Omega.{arith}
 use lib.ListN.{length}
-use Rattle.lxtr_text.specs.Forms.{FormSoFar, form-start, form-place, form-length, form-next, form-end}
+use Rattle.lxtr_text.specs.FormLoops.{FormSoFar, form-start, form-place, form-length, form-next, form-end}
 use Rattle.lxtr_text.proofs.forms.fill.Statement.{statement}
 use Rattle.lxtr_text.proofs.forms.fill.Tie as tie
 

@@ -1,6 +1,6 @@
 -- The first number, or 0.
 use borrow.Author.Needs.{needs}
-use Rattle.lxtr_text.specs.Forms.{none-left, first-left}
+use Rattle.lxtr_text.specs.FormLoops.{none-left, first-left}
 use Rattle.lxtr_text.proofs.forms.next_number.Statement.{statement}
 use Rattle.lxtr_text.proofs.forms.next_number.Tie as tie
 

@@ -1,6 +1,6 @@
 -- The three returns are the cases of the definition.
 use borrow.Author.Needs.{needs}
-use Rattle.lxtr_text.specs.Forms.{no-more, one-taken, none-taken}
+use Rattle.lxtr_text.specs.FormLoops.{no-more, one-taken, none-taken}
 use Rattle.lxtr_text.proofs.forms.next_place.Statement.{statement}
 use Rattle.lxtr_text.proofs.forms.next_place.Tie as tie
 

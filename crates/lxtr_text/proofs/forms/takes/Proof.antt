@@ -1,6 +1,6 @@
 -- The code's three tests are those of the definition.
 use Rattle.lxtr_command_spec.specs.Forms.{takes}
-use Rattle.lxtr_text.specs.Forms.{three-tests}
+use Rattle.lxtr_text.specs.FormLoops.{three-tests}
 use Rattle.lxtr_text.proofs.forms.takes.Statement.{statement}
 use Rattle.lxtr_text.proofs.forms.takes.Tie as tie
 

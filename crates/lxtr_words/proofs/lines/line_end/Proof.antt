@@ -2,7 +2,7 @@
 use borrow.Author.Needs.{needs}
 use Prim.Native.Nat.{_-_}
 use lib.ListN.{length}
-use Rattle.lxtr_words.specs.Lines.{LineSoFar, line-start, line-feed, line-next, line-end}
+use Rattle.lxtr_words.specs.TextLines.{LineSoFar, line-start, line-feed, line-next, line-end}
 use Rattle.lxtr_words.proofs.lines.line_end.Statement.{statement}
 use Rattle.lxtr_words.proofs.lines.line_end.Tie as tie
 

@@ -1,6 +1,6 @@
 -- An empty line has the empty word; another loses a carriage return at its end.
 use borrow.Author.Needs.{needs}
-use Rattle.lxtr_words.specs.Lines.{word-none, word-return, word-all}
+use Rattle.lxtr_words.specs.TextLines.{word-none, word-return, word-all}
 use Rattle.lxtr_words.proofs.lines.word_end.Statement.{statement}
 use Rattle.lxtr_words.proofs.lines.word_end.Tie as tie
 

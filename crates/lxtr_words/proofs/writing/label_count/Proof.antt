@@ -1,6 +1,6 @@
 -- A word without a problem has no more labels than a key may have.
 use borrow.Author.Needs.{needs}
-use Rattle.lxtr_words.specs.Writing.{count-is, count-small}
+use Rattle.lxtr_words.specs.KeyWriting.{count-is, count-small}
 use Rattle.lxtr_words.proofs.writing.label_count.Statement.{statement}
 use Rattle.lxtr_words.proofs.writing.label_count.Tie as tie
 

@@ -3,7 +3,7 @@ use borrow.Author.Needs.{needs}
 use Prim.Native.Nat.{_-_}
 use lib.ListN.{length}
 use Rattle.lxtr_spec.specs.Labels.{maxLabels}
-use Rattle.lxtr_words.specs.Writing.{this-right, Summed, sum-start, sum-next, sum-end}
+use Rattle.lxtr_words.specs.KeyWriting.{this-right, Summed, sum-start, sum-next, sum-end}
 use Rattle.lxtr_words.proofs.writing.list_length.Statement.{statement}
 use Rattle.lxtr_words.proofs.writing.list_length.Tie as tie
 

@@ -1,6 +1,6 @@
 -- The labels first, and then the length byte before them.
 use borrow.Author.Needs.{needs}
-use Rattle.lxtr_words.specs.Writing.{length-byte, key-put}
+use Rattle.lxtr_words.specs.KeyWriting.{length-byte, key-put}
 use Rattle.lxtr_words.proofs.writing.put_key.Statement.{statement}
 use Rattle.lxtr_words.proofs.writing.put_key.Tie as tie
 

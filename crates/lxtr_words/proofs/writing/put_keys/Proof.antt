@@ -2,7 +2,7 @@
 use borrow.Author.Needs.{needs}
 use Prim.Native.Nat.{_-_}
 use lib.ListN.{length}
-use Rattle.lxtr_words.specs.Writing.{Writing, this-right, writing-start, writing-room, writing-next, writing-end}
+use Rattle.lxtr_words.specs.KeyWriting.{Writing, this-right, writing-start, writing-room, writing-next, writing-end}
 use Rattle.lxtr_words.proofs.writing.put_keys.Statement.{statement}
 use Rattle.lxtr_words.proofs.writing.put_keys.Tie as tie
 

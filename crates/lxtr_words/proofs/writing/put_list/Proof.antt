@@ -1,6 +1,6 @@
 -- Version and count, and the keys behind them.
 use borrow.Author.Needs.{needs}
-use Rattle.lxtr_words.specs.Writing.{head-room, keys-room, list-put}
+use Rattle.lxtr_words.specs.KeyWriting.{head-room, keys-room, list-put}
 use Rattle.lxtr_words.proofs.writing.put_list.Statement.{statement}
 use Rattle.lxtr_words.proofs.writing.put_list.Tie as tie
 

@@ -3,7 +3,7 @@ use borrow.Author.Needs.{needs}
 use Prim.Native.Nat.{_≤_}
 use mathlib.Core.Path.{_≡_, refl}
 use Rattle.lxtr_spec.specs.Builds.{slotsUsed}
-use Rattle.lxtr_write.specs.Counting.{used-found, used-next, used-end}
+use Rattle.lxtr_write.specs.SlotCounting.{used-found, used-next, used-end}
 use Rattle.lxtr_write.proofs.counting.slots_used.Statement.{statement}
 use Rattle.lxtr_write.proofs.counting.slots_used.Tie as tie
 

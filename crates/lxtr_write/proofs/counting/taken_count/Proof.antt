@@ -3,7 +3,7 @@ use borrow.Author.Needs.{needs}
 use Prim.Native.Nat.{_-_}
 use Rattle.lxtr_spec.specs.Placing.{isTakenFrom2}
 use Rattle.lxtr_laws.specs.Tallies.{CountSoFar, count-start, count-next, count-end}
-use Rattle.lxtr_write.specs.Counting.{taken-fits}
+use Rattle.lxtr_write.specs.SlotCounting.{taken-fits}
 use Rattle.lxtr_write.proofs.counting.taken_count.Statement.{statement}
 use Rattle.lxtr_write.proofs.counting.taken_count.Tie as tie
 

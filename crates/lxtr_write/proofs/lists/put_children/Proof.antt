@@ -3,7 +3,7 @@ use borrow.Author.Needs.{needs}
 use native.Mathlib.Omega.{arith}
 use Rattle.lxtr_spec.specs.Placing.{baseAt}
 use Rattle.lxtr_write.specs.Links.{ahead}
-use Rattle.lxtr_write.specs.Lists.{Following, head-inside, follow-start, follow-index, follow-less, follow-next, follow-end}
+use Rattle.lxtr_write.specs.ListWriting.{Following, head-inside, follow-start, follow-index, follow-less, follow-next, follow-end}
 use Rattle.lxtr_write.proofs.lists.put_children.Statement.{statement}
 use Rattle.lxtr_write.proofs.lists.put_children.Tie as tie
 

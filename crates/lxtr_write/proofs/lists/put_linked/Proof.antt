@@ -2,7 +2,7 @@
 -- Each turn lays one offset behind the offsets and one list behind the lists; the last offset comes after the loop.
 use borrow.Author.Needs.{needs}
 use Prim.Native.Nat.{_-_}
-use Rattle.lxtr_write.specs.Lists.{ListsSoFar, lists-start, lists-fit, lists-room, lists-next, lists-end}
+use Rattle.lxtr_write.specs.ListWriting.{ListsSoFar, lists-start, lists-fit, lists-room, lists-next, lists-end}
 use Rattle.lxtr_write.proofs.lists.put_linked.Statement.{statement}
 use Rattle.lxtr_write.proofs.lists.put_linked.Tie as tie
 

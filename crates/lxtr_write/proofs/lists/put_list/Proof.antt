@@ -1,6 +1,6 @@
 -- Slot 0 and an end leave the output as it is; the list of any other slot is its children by all codes.
 use borrow.Author.Needs.{needs}
-use Rattle.lxtr_write.specs.Lists.{list-slot, list-skipped, list-room, list-put}
+use Rattle.lxtr_write.specs.ListWriting.{list-slot, list-skipped, list-room, list-put}
 use Rattle.lxtr_write.proofs.lists.put_list.Statement.{statement}
 use Rattle.lxtr_write.proofs.lists.put_list.Tie as tie
 

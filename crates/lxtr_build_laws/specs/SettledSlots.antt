@@ -13,8 +13,8 @@ use Rattle.lxtr_spec.specs.Image.{low31}
 use Rattle.lxtr_spec.specs.Joining.{slotUnder}
 use Rattle.lxtr_spec.specs.Placing.{checkAt, firstFit, baseCount, putChild, putChildren, putParent, settle}
 use Rattle.lxtr_build_laws.specs.CodeTables.{Rising}
-use Rattle.lxtr_build_laws.specs.Slots.{check-of-base, check-same, check-other, base-of-check, base-other, Same, Free, Taken, taken-same, free-same}
-use Rattle.lxtr_build_laws.specs.Steps.{Step, step-none, step-join, step-own, step-child, Ready, ready-after}
+use Rattle.lxtr_build_laws.specs.SlotWords.{check-of-base, check-same, check-other, base-of-check, base-other, Same, Free, Taken, taken-same, free-same}
+use Rattle.lxtr_build_laws.specs.PlacingSteps.{Step, step-none, step-join, step-own, step-child, Ready, ready-after}
 use Rattle.lxtr_build_laws.specs.FirstFit.{Smallest, first-fit-some, AllFree, fits-free, slot-injective}
 
 -- ---- one child's words

@@ -17,8 +17,8 @@ use Rattle.lxtr_laws.specs.Overlays.{over}
 use Rattle.lxtr_command_spec.specs.declared.Keyed.{Keyed}
 use Rattle.lxtr_command_spec.specs.WordLists.{linesOf, firstProblem, keysOfText, KeyedAnswer, refusedWords, keyed, keyedLines, keyedOf}
 use Rattle.lxtr_words.specs.Problems.{problemAnswer, none-right}
-use Rattle.lxtr_words.specs.Tables.{keysOf, LinesRight, keys-length}
-use Rattle.lxtr_words.specs.Gathering.{Gathered}
+use Rattle.lxtr_words.specs.WordTables.{keysOf, LinesRight, keys-length}
+use Rattle.lxtr_words.specs.WordGathering.{Gathered}
 
 -- ---- keys ks and an output
 

@@ -10,7 +10,7 @@ use lib.ListN.{length}
 use Rattle.lxtr_spec.specs.Labels.{maxSlots}
 use Rattle.lxtr_spec.specs.Image.{low31}
 use Rattle.lxtr_spec.specs.Placing.{baseAt, checkAt}
-use Rattle.lxtr_build_laws.specs.Slots.{Same, Free, Taken, parentAt, free-or-taken, taken-same, free-same}
+use Rattle.lxtr_build_laws.specs.SlotWords.{Same, Free, Taken, parentAt, free-or-taken, taken-same, free-same}
 
 -- a slot taken between w and w′: its parent is one of A, or was free too, and is taken now
 pub record NewlyTaken (S : ℕ) (A : ℕ → Type 0) (w w′ : List ℕ) (t : ℕ) : Type 0 where

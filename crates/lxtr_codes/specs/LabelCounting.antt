@@ -21,11 +21,11 @@ use Rattle.lxtr_spec.specs.KeyLists.{maxKeys, keysAt, keyCount, keyLength, keyL
 use Rattle.lxtr_spec.specs.CodeMaps.{contains, frequency, labelsUsed}
 use Rattle.lxtr_laws.specs.Tests.{cond-within}
 use Rattle.lxtr_laws.specs.Members.{member-at}
-use Rattle.lxtr_build_laws.specs.KeyLists.{WholeKeys, KeysPassed}
-use Rattle.lxtr_build_laws.specs.Keys.{key-size, key-at, whole-on, keys-on, keys-end, keys-length}
+use Rattle.lxtr_build_laws.specs.KeyListFacts.{WholeKeys, KeysPassed}
+use Rattle.lxtr_build_laws.specs.KeyReading.{key-size, key-at, whole-on, keys-on, keys-end, keys-length}
 use Rattle.lxtr_build_laws.specs.CodeTables.{Rising, placeIn}
-use Rattle.lxtr_build_laws.specs.Rising.{place-at, place-mem}
-use Rattle.lxtr_build_laws.specs.Labels.{used-members, used-rising}
+use Rattle.lxtr_build_laws.specs.RisingNumbers.{place-at, place-mem}
+use Rattle.lxtr_build_laws.specs.UsedLabels.{used-members, used-rising}
 
 -- the labels of a key are listed, and their counts are small
 pub record Countable (key labels counts : List ℕ) : Type 0 where

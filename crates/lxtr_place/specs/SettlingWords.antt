@@ -14,9 +14,9 @@ use Rattle.lxtr_spec.specs.Placing.{checkAt, firstFit, putChild, putChildren, p
 use Rattle.lxtr_spec.specs.declared.Found.{Found}
 use Rattle.lxtr_spec.specs.declared.Found.the-variants.{Is, Nothing}
 use Rattle.lxtr_laws.specs.Members.{member-at}
-use Rattle.lxtr_build_laws.specs.Slots.{check-of-base}
+use Rattle.lxtr_build_laws.specs.SlotWords.{check-of-base}
 use Rattle.lxtr_build_laws.specs.FirstFit.{first-fit-some, fits-free}
-use Rattle.lxtr_build_laws.specs.Settling.{put-child-size}
+use Rattle.lxtr_build_laws.specs.SettledSlots.{put-child-size}
 
 -- the words of each child's slot under the base lie in a work of so many words
 pub record ChildrenInside (words b : ℕ) (cs : List ℕ) : Type 0 where

@@ -16,7 +16,7 @@ use Rattle.lxtr_spec.specs.Builds.{slotsUsed, childrenIn, slotsIn, placedIn}
 use Rattle.lxtr_laws.specs.Members.{members-counted}
 use Rattle.lxtr_build_laws.specs.ChildLists.{TakenListed, all-mem, all-has, all-differ}
 use Rattle.lxtr_build_laws.specs.UsedSlots.{taken-is}
-use Rattle.lxtr_build_laws.specs.KeyLists.{KeysRight}
+use Rattle.lxtr_build_laws.specs.KeyListFacts.{KeysRight}
 use Rattle.lxtr_build_laws.specs.Filling.{filling}
 use Rattle.lxtr_build_laws.specs.FilledWork.{filled}
 

@@ -12,7 +12,7 @@ use Rattle.lxtr_spec.specs.Sets.{InList}
 use Rattle.lxtr_laws.specs.Tests.{outcome, eqb-is-false}
 use Rattle.lxtr_laws.specs.Passed.{Whole, Passed}
 use Rattle.lxtr_laws.specs.Facts.{UsedFrom2, Used, UsedRight, EntryRight, Accepted}
-use Rattle.lxtr_laws.specs.Places.{ListsSorted, list-of-place, in-array}
+use Rattle.lxtr_laws.specs.EntryPlaces.{ListsSorted, list-of-place, in-array}
 
 -- an entry has a parent
 entry-used : {b : List ℕ} {p j : ℕ} → EntryRight b p j → UsedFrom2 b (child b j)

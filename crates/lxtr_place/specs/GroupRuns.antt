@@ -12,9 +12,9 @@ use lib.ListN.{take, drop}
 use Rattle.lxtr_spec.specs.Labels.{comesBefore, Pair}
 use Rattle.lxtr_spec.specs.Placing.{below, endValue}
 use Rattle.lxtr_laws.specs.Tests.{ltb-is-true, ltb-is-false}
-use Rattle.lxtr_laws.specs.Order.{first-or-rest}
-use Rattle.lxtr_build_laws.specs.KeyLists.{Ascending}
-use Rattle.lxtr_place.specs.Groups.{goesBy, isUnder, runOf}
+use Rattle.lxtr_laws.specs.KeyOrder.{first-or-rest}
+use Rattle.lxtr_build_laws.specs.KeyListFacts.{Ascending}
+use Rattle.lxtr_place.specs.GroupRanges.{goesBy, isUnder, runOf}
 
 -- what is left behind one more label
 unfoldable pub tails : List Pair → List Pair

@@ -10,7 +10,7 @@ use borrow.Author.Tests.{eq-eqb, ne-eqb}
 use lib.ListN.{length}
 use Rattle.lxtr_spec.specs.Numbers.{be32}
 use Rattle.lxtr_laws.specs.Passed.{Passed}
-use Rattle.lxtr_laws.specs.Ranges.{more}
+use Rattle.lxtr_laws.specs.RangeTests.{more}
 use Rattle.lxtr_spec.specs.Image.{mapLength, mapAt, labelCount, labelAt, codeFrom, codeOf}
 
 no-more : (n i : ℕ) → n ≤ i → n - i ≡ 0

@@ -10,10 +10,10 @@ use lib.ListN.{length}
 use Rattle.lxtr_spec.specs.Image.{slotFrom, codeTo, slotCount, isLeaf, hasLeaf, parent, hasParent, valueNumber, codeOf}
 use Rattle.lxtr_spec.specs.Refusals.{ownCode}
 use Rattle.lxtr_spec.specs.Walks.{step, stepBy, walk, leafValue, valueAt, valueReached, valueOf}
-use Rattle.lxtr_laws.specs.Ranges.{tests}
-use Rattle.lxtr_laws.specs.Joining.{code-to-slot}
+use Rattle.lxtr_laws.specs.RangeTests.{tests}
+use Rattle.lxtr_laws.specs.JoiningLaws.{code-to-slot}
 use Rattle.lxtr_laws.specs.Facts.{ancestor}
-use Rattle.lxtr_laws.specs.Keys.{Last, empty, snoc, last, length-snoc}
+use Rattle.lxtr_laws.specs.KeyPrefixes.{Last, empty, snoc, last, length-snoc}
 
 -- t is the slot that code c reaches from slot n
 pub record Stepped (b : List ℕ) (n c t : ℕ) : Type 0 where

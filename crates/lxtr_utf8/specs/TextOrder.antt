@@ -10,7 +10,7 @@ use mathlib.Core.Bool.{true, false}
 use lib.ListN.{length, length-append}
 use Rattle.lxtr_spec.specs.Labels.{comesBefore}
 use Rattle.lxtr_laws.specs.Tests.{is-false}
-use Rattle.lxtr_laws.specs.Order.{first-or-rest, before-common, before-self, before-trans}
+use Rattle.lxtr_laws.specs.KeyOrder.{first-or-rest, before-common, before-self, before-trans}
 use Rattle.lxtr_command_spec.specs.Utf8.{tailByte, utf8, textOf}
 use Rattle.lxtr_utf8.specs.Fronts.{Size, one, two, three, four, size-of, one-byte, two-bytes, three-bytes, four-bytes}
 use Rattle.lxtr_utf8.specs.Texts.{some-bytes}

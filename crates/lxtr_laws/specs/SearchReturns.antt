@@ -16,8 +16,8 @@ use Rattle.lxtr_spec.specs.declared.Found.{Found}
 use Rattle.lxtr_spec.specs.declared.Found.the-variants.{Is, Nothing}
 use Rattle.lxtr_spec.specs.declared.Prefixes.{Prefixes}
 use Rattle.lxtr_spec.specs.declared.Probe.{Probe}
-use Rattle.lxtr_laws.specs.Refusing.{none-refused, none-first, first-stands, stands}
-use Rattle.lxtr_laws.specs.Ranges.{tests}
+use Rattle.lxtr_laws.specs.RefusalChains.{none-refused, none-first, first-stands, stands}
+use Rattle.lxtr_laws.specs.RangeTests.{tests}
 use Rattle.lxtr_laws.specs.Stepping.{found-is, found-none}
 use Rattle.lxtr_laws.specs.Passed.{Passed, header-passed}
 

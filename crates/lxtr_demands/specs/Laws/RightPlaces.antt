@@ -17,15 +17,15 @@ use Rattle.lxtr_spec.specs.Sets.{InList}
 use Rattle.lxtr_spec.specs.declared.Fault.{Fault}
 use Rattle.lxtr_spec.specs.declared.Fault.the-variants.{Nowhere, Label, Slot, Offset, Entry, Unlisted, Childless, RootBase, Unreachable}
 use Rattle.lxtr_laws.specs.Tests.{is-false, and-is-true, and-is-false, not-is-true, not-is-false}
-use Rattle.lxtr_laws.specs.Ranges.{any-true, any-false}
+use Rattle.lxtr_laws.specs.RangeTests.{any-true, any-false}
 use Rattle.lxtr_laws.specs.Firsts.{first-below, one-first, some-first}
 use Rattle.lxtr_laws.specs.Passed.{Passed}
-use Rattle.lxtr_laws.specs.Lists.{in-list, offsets-rise, in-children}
+use Rattle.lxtr_laws.specs.ListPlaces.{in-list, offsets-rise, in-children}
 use Rattle.lxtr_laws.specs.Facts.{UsedFrom2}
 use Rattle.lxtr_laws.specs.Faults.{used-from-2, slots-right, offsets-right, entry-right, entries-right}
 use Rattle.lxtr_laws.specs.Refused.{refusal-most, refused-passed, slots-right-by, refused-9, refused-10, refused-11, refused-12}
-use Rattle.lxtr_laws.specs.Entries.{EntriesRight}
-use Rattle.lxtr_demands.specs.FaultPlaces.{First, None, entryFaulty, FirstEntry, OffsetsRise, EntriesHold, AllListed, Right, FaultRight}
+use Rattle.lxtr_laws.specs.ListEntries.{EntriesRight}
+use Rattle.lxtr_demands.specs.RightPlaces.{First, None, entryFaulty, FirstEntry, OffsetsRise, EntriesHold, AllListed, Right, FaultRight}
 use Rattle.lxtr_demands.specs.Laws.Lists.{used-listed, listed-counted, own-list}
 
 -- where some number passes, the search finds the first

@@ -9,7 +9,7 @@ use mathlib.Core.Bool.{Bool, true, false, _&&_, not, cond, false≢true, and-tru
 use lib.Dec.{eqb}
 use borrow.Author.Tests.{eq-eqb, ne-eqb}
 use Rattle.lxtr_spec.specs.Ranges.{countBelow}
-use Rattle.lxtr_laws.specs.Ranges.{below-suc}
+use Rattle.lxtr_laws.specs.RangeTests.{below-suc}
 use Rattle.lxtr_laws.specs.Tests.{and-is-true, not-is-true, eqb-is-false}
 
 pub count-same : (n : ℕ) (f g : ℕ → Bool) → ((i : ℕ) → i < n → f i ≡ g i) → countBelow n f ≡ countBelow n g

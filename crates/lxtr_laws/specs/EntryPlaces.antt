@@ -10,7 +10,7 @@ use mathlib.Core.Logic.{_≢_}
 use mathlib.Core.List.{List}
 use Rattle.lxtr_spec.specs.Image.{codeTo, slotCount, parent, offset, child}
 use Rattle.lxtr_spec.specs.Sets.{InList, ListsFit}
-use Rattle.lxtr_laws.specs.Lists.{in-children}
+use Rattle.lxtr_laws.specs.ListPlaces.{in-children}
 
 -- the lists hold children of their slots, by ascending code
 pub record ListsSorted (b : List ℕ) : Type 0 where

@@ -7,7 +7,7 @@ use lib.ListN.{getD, length, drop}
 use lib.Dec.{eqb, ltb}
 use Rattle.lxtr_spec.specs.Labels.{lengthCount, Pair}
 use Rattle.lxtr_spec.specs.KeyLists.{maxKeys, nextKey, keyAt}
-use Rattle.lxtr_build_laws.specs.KeyLists.{WholeKeys, Ascending}
+use Rattle.lxtr_build_laws.specs.KeyListFacts.{WholeKeys, Ascending}
 use Rattle.lxtr_build_laws.specs.CodeTables.{codeBy}
 use Rattle.lxtr_build_laws.specs.Groups.{CodesIn}
 use Rattle.lxtr_place.specs.declared.groups.Group.{Group}

@@ -14,7 +14,7 @@ use Rattle.lxtr_spec.specs.Completions.{CompletionAnswer, completionOf}
 use Rattle.lxtr_spec.specs.Builds.{BuildAnswer, buildOf}
 use Rattle.lxtr_spec.specs.Answers.{found, exactMeans, probeMeans}
 use Rattle.lxtr_spec.specs.HostNumbers.{hostNumber, valueNumbered, faultNumbered, checkNumber, faultNumber, exactNumber, probeNumber, longestNumber, HostPrefixes, alternately, atFront, prefixesNumber, placesAfter, hostPrefixesOf, HostCompletion, completionNumber, hostCompletionOf, HostBuild, builtNumber, hostBuildOf}
-use Rattle.lxtr_laws.specs.Refusing.{stands}
+use Rattle.lxtr_laws.specs.RefusalChains.{stands}
 use Rattle.lxtr_search.specs.Kept.{longest-bytes, longest-limit}
 use Rattle.lxtr_spec.specs.declared.Verdict.{Verdict}
 use Rattle.lxtr_spec.specs.declared.Fault.{Fault}

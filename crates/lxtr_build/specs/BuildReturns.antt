@@ -14,14 +14,14 @@ use Rattle.lxtr_spec.specs.Builds.{imageIn, slotsUsed, slotsIn, placedIn, Outco
 use Rattle.lxtr_spec.specs.declared.Built.{Built}
 use Rattle.lxtr_laws.specs.Tests.{not-is-true, not-is-false}
 use Rattle.lxtr_laws.specs.Overlays.{over}
-use Rattle.lxtr_build_laws.specs.KeyLists.{KeysPassed}
+use Rattle.lxtr_build_laws.specs.KeyListFacts.{KeysPassed}
 use Rattle.lxtr_build_laws.specs.Passing.{list-passed}
 use Rattle.lxtr_build_laws.specs.CodeTables.{picked, CodeTables, Mapped}
-use Rattle.lxtr_build_laws.specs.Tables.{picked-length}
+use Rattle.lxtr_build_laws.specs.TableCodes.{picked-length}
 use Rattle.lxtr_build_laws.specs.Work.{placedAs}
-use Rattle.lxtr_build_laws.specs.Counts.{children-count}
-use Rattle.lxtr_write.specs.Writing.{ImageReady}
-use Rattle.lxtr_write.specs.Answers.{Answers, answers-refusal}
+use Rattle.lxtr_build_laws.specs.ListTotals.{children-count}
+use Rattle.lxtr_write.specs.SectionWriting.{ImageReady}
+use Rattle.lxtr_write.specs.WriteOutcomes.{Answers, answers-refusal}
 
 -- what comes of these keys with this work and this output: from refusal 20 on, and from refusal 22 on
 abbrev pub labelsOutcome : List ℕ → List ℕ → List ℕ → Outcome

@@ -17,10 +17,10 @@ use Rattle.lxtr_spec.specs.Builds.{headerBytes, mapBytes, imageBytes, imageIn, 
 use Rattle.lxtr_laws.specs.ByteOrders.{little, big, words-size}
 use Rattle.lxtr_laws.specs.Overlays.{over, over-over, WordsIn, words-next, words-end}
 use Rattle.lxtr_build_laws.specs.CodeTables.{picked}
-use Rattle.lxtr_build_laws.specs.Tables.{picked-length, picked-at}
+use Rattle.lxtr_build_laws.specs.TableCodes.{picked-length, picked-at}
 use Rattle.lxtr_build_laws.specs.ChildLists.{offsets-length}
 use Rattle.lxtr_build_laws.specs.UsedSlots.{used-low, used-high, taken-few}
-use Rattle.lxtr_write.specs.Counting.{Slots}
+use Rattle.lxtr_write.specs.SlotCounting.{Slots}
 
 -- the order gives a place in the table of labels for each code
 pub record MapOrder (labels order : List ℕ) : Type 0 where

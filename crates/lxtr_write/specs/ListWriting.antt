@@ -18,11 +18,11 @@ use Rattle.lxtr_spec.specs.Image.{topBit}
 use Rattle.lxtr_spec.specs.Placing.{baseAt}
 use Rattle.lxtr_spec.specs.Builds.{isChild, childBy, childrenOf, childrenIn, offsetsFrom}
 use Rattle.lxtr_laws.specs.Tests.{is-false, or-is-false, eqb-is-false}
-use Rattle.lxtr_laws.specs.Ranges.{concat-more, concat-front}
+use Rattle.lxtr_laws.specs.RangeTests.{concat-more, concat-front}
 use Rattle.lxtr_laws.specs.ByteOrders.{little, words-size, words-append, words-one}
 use Rattle.lxtr_laws.specs.Overlays.{over, over-length, over-none, over-over, over-comm, words-next}
 use Rattle.lxtr_build_laws.specs.ChildLists.{Child, child-is, list-none, list-some, offsets-length, offset-at}
-use Rattle.lxtr_write.specs.Counting.{Slots}
+use Rattle.lxtr_write.specs.SlotCounting.{Slots}
 use Rattle.lxtr_write.specs.Links.{slot, First, Linked, ahead, child, first-small, child-there, next-index, next-first, next-less}
 
 -- The numbers xs were written as the entries from e on of an array that starts at a place of the output; r is the entry after them.

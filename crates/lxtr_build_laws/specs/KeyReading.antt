@@ -8,8 +8,8 @@ use native.Mathlib.Omega.{arith}
 use lib.ListN.{getD, length, drop, drop-of-length-le}
 use lib.Seq.{drop-cons}
 use Rattle.lxtr_spec.specs.KeyLists.{keyLength, keyLabel, nextKey, keyLabels, keyAt, keysFrom}
-use Rattle.lxtr_laws.specs.Ranges.{more}
-use Rattle.lxtr_build_laws.specs.KeyLists.{WholeKey, WholeKeys}
+use Rattle.lxtr_laws.specs.RangeTests.{more}
+use Rattle.lxtr_build_laws.specs.KeyListFacts.{WholeKey, WholeKeys}
 
 -- ---- the labels of one key
 

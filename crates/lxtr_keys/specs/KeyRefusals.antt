@@ -16,10 +16,10 @@ use Rattle.lxtr_spec.specs.Labels.{maxLabels, comesBefore}
 use Rattle.lxtr_spec.specs.Refusals.{refuseIf, firstRefusal}
 use Rattle.lxtr_spec.specs.KeyLists.{listVersion, keyCount, keysAt, maxKeys, keyLength, keyLabel, nextKey, keyAt, noScalarAt, notAbove, keyRefusal, keysRefusal, listRefusal}
 use Rattle.lxtr_laws.specs.Tests.{outcome}
-use Rattle.lxtr_laws.specs.Ranges.{more}
-use Rattle.lxtr_laws.specs.Refusing.{refused, goes-on, first-stands}
-use Rattle.lxtr_build_laws.specs.KeyLists.{WholeKey}
-use Rattle.lxtr_build_laws.specs.Keys.{key-ends, key-goes}
+use Rattle.lxtr_laws.specs.RangeTests.{more}
+use Rattle.lxtr_laws.specs.RefusalChains.{refused, goes-on, first-stands}
+use Rattle.lxtr_build_laws.specs.KeyListFacts.{WholeKey}
+use Rattle.lxtr_build_laws.specs.KeyReading.{key-ends, key-goes}
 use Rattle.lxtr_build_laws.specs.Passing.{KeyPassed, key-passed}
 
 -- from key 1 on, the key before key i lies whole in the list

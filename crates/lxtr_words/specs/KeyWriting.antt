@@ -16,8 +16,8 @@ use Rattle.lxtr_laws.specs.Members.{member-at}
 use Rattle.lxtr_laws.specs.Overlays.{over, over-length, over-none, over-set, over-over, over-comm}
 use Rattle.lxtr_command_spec.specs.declared.Decoded.{Decoded}
 use Rattle.lxtr_command_spec.specs.Utf8.{countOf, DecodingAnswer, decoding, decodingOf}
-use Rattle.lxtr_words.specs.Lines.{wordAt}
-use Rattle.lxtr_words.specs.Tables.{keyOf, keysOf, WordRight, Table, key-is, key-short, key-count, keys-length, keys-at}
+use Rattle.lxtr_words.specs.TextLines.{wordAt}
+use Rattle.lxtr_words.specs.WordTables.{keyOf, keysOf, WordRight, Table, key-is, key-short, key-count, keys-length, keys-at}
 
 -- ---- the bytes of a key list
 
