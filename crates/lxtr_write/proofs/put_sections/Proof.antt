@@ -1,5 +1,6 @@
 -- Each section is written behind the one before it.
 use borrow.Author.Needs.{needs}
+use native.Mathlib.Omega.{arith}
 use Rattle.lxtr_write.specs.SectionWriting.{image-put}
 use Rattle.lxtr_write.proofs.put_sections.Statement.{statement}
 use Rattle.lxtr_write.proofs.put_sections.Tie as tie
@@ -21,10 +22,10 @@ put-sections-spec =
     (λ c. search needs)
     (λ c. search needs)
     (λ c κs. search needs)
-    (λ c κs. (search needs, search needs))
+    (λ c κs. (search needs, omega arith))
     (λ c. search needs)
-    (λ c κs. (search needs, (search needs, search needs)))
-    (λ c κs. (search needs, search needs))
+    (λ c κs. (search needs, (omega arith, omega arith)))
+    (λ c κs. (search needs, omega arith))
     (λ c. search needs)
     (λ c.
     let map = c .before .before in
