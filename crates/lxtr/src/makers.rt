@@ -71,7 +71,7 @@ fn list_in(text: &[u8], out: &mut [u8; LARGEST_FILE]) {
 }
 
 fn list_into(text: &[u8], out: &mut [u8]) {
-    let start = lxtr_words::mark_length(text);
+    let start = lxtr_utf8::mark_length(text);
     let keyed = lxtr_words::key_list(&text[start..], out);
     if keyed.problem != 0 {
         print_problem(keyed.problem, keyed.line);

@@ -11,15 +11,21 @@ use lxtr_spec::MAX_KEYS;
 use lxtr_spec::MAX_LABELS;
 use lxtr_spec::MAX_LISTED;
 use lxtr_spec::MAX_SLOTS;
+use lxtr_spec::refusals::KEY_TOO_LONG;
+use lxtr_spec::refusals::TOO_FEW_SLOTS;
+use lxtr_spec::refusals::TOO_MANY_KEYS;
+use lxtr_spec::refusals::TOO_MANY_LABELS;
+use lxtr_spec::refusals::UNREACHABLE;
+use lxtr_spec::refusals::WRONG_LABELS;
 
 // The limit that a refusal's sentence names.
 fn limit_of(refusal: u8) -> u32 {
     match refusal {
-        12 => printed(LENGTH_COUNT),
-        16 => printed(MAX_KEYS),
-        17 => printed(MAX_LABELS),
-        20 => printed(MAX_LISTED),
-        22 => printed(MAX_SLOTS),
+        UNREACHABLE => printed(LENGTH_COUNT),
+        TOO_MANY_KEYS => printed(MAX_KEYS),
+        KEY_TOO_LONG => printed(MAX_LABELS),
+        TOO_MANY_LABELS => printed(MAX_LISTED),
+        TOO_FEW_SLOTS => printed(MAX_SLOTS),
         _ => 0,
     }
 }
@@ -61,7 +67,7 @@ pub fn print_refusal(refusal: u8) {
 
 // Whether the fault has a place.
 pub fn has_place(refusal: u8) -> bool {
-    (9 <= refusal) & (refusal <= 12)
+    (WRONG_LABELS <= refusal) & (refusal <= UNREACHABLE)
 }
 
 // The place of the fault's sentence below.

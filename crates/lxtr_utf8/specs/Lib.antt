@@ -8,3 +8,4 @@ pub mod TextOrder
 pub mod Octets
 pub mod Encoded
 pub mod Decoding
+pub mod Marks

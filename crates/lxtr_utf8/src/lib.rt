@@ -1,5 +1,5 @@
-// Text in UTF-8 (RFC 3629) as labels: how many it has, and the labels written into lent room as a query has them. Nothing is
-// assumed of the text. That the order of labels is the order of the bytes, and that there is one reading of a text, is in specs/.
+// Text in UTF-8 (RFC 3629) as labels: how many it has, and the labels written into lent room as a query has them; and the byte order mark
+// at its front. Nothing is assumed of the text. That the order of labels is the order of the bytes, and that there is one reading of a text, is in specs/.
 mod characters; // the character that a text begins with
 
 ghost use mathlib.Core.Path.{_≡_};
@@ -8,6 +8,7 @@ ghost use lib.ListN.{length};
 ghost use Rattle.lxtr_spec.specs.Numbers.{beWords};
 ghost use Rattle.lxtr_laws.specs.Overlays.{over};
 ghost use Rattle.lxtr_command_spec.specs.Utf8.{countOf, decodingOf};
+ghost use Rattle.lxtr_command_spec.specs.WordLists.{markLength};
 ghost use Rattle.lxtr_utf8.specs.Decoding.{labelsIn, IsText};
 use crate::characters::first_character;
 use lxtr_bytes::numbers::put_be32;
@@ -67,4 +68,18 @@ pub fn decode(text: &[u8], room: &mut [u8]) -> Decoded
     }
     put_labels(text, room);
     counted
+}
+
+// How many bytes the byte order mark at the text's front has; the words are behind it.
+pub fn mark_length(text: &[u8]) -> usize
+    ensures { λ r. ⌜ r ≡ markLength (now (text .entry)) ⌝ }
+    ensures { λ r. ⌜ r ≤ length (now (text .entry)) ⌝ }
+{
+    if text.len() < 3 {
+        return 0;
+    }
+    if (text[0] == 0xEF) & (text[1] == 0xBB) & (text[2] == 0xBF) {
+        return 3;
+    }
+    0
 }

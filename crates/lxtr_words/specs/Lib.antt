@@ -15,4 +15,3 @@ pub mod ListReturns
 -- That list read back, and the proof of what it has to be.
 pub mod ReadKeys
 pub mod Listed
-pub mod Marks

@@ -1,5 +1,5 @@
 // A text file of one word per line, in UTF-8, as a key list: sorted, each word once. Nothing is assumed of the text.
-// Any caller may use `key_list`, and `mark_length` for a text with a byte order mark; the other functions are parts of the first. A word is known by the place in the text where it starts.
+// Any caller may use `key_list`; the other functions are its parts. A word is known by the place in the text where it starts.
 mod lines; // the lines of a text, and the word of each
 mod problems; // lines that make no word
 mod order; // which of two words comes first
@@ -10,7 +10,7 @@ ghost use mathlib.Core.Path.{_≡_};
 ghost use Prim.Native.Nat.{_≤_};
 ghost use lib.ListN.{length};
 ghost use Rattle.lxtr_spec.specs.KeyLists.{maxKeys};
-ghost use Rattle.lxtr_command_spec.specs.WordLists.{markLength, linesOf, keysOfText, keyed, keyedOf};
+ghost use Rattle.lxtr_command_spec.specs.WordLists.{linesOf, keysOfText, keyed, keyedOf};
 ghost use Rattle.lxtr_words.specs.WordTables.{keysOf, LinesRight, Table};
 use crate::problems::first_problem;
 use crate::table::TABLE_SIZE;
@@ -76,18 +76,4 @@ pub fn key_list(text: &[u8], out: &mut [u8]) -> Keyed
         return found;
     }
     list_lines(text, out)
-}
-
-// How many bytes the byte order mark at the text's front has; the words are behind it.
-pub fn mark_length(text: &[u8]) -> usize
-    ensures { λ r. ⌜ r ≡ markLength (now (text .entry)) ⌝ }
-    ensures { λ r. ⌜ r ≤ length (now (text .entry)) ⌝ }
-{
-    if text.len() < 3 {
-        return 0;
-    }
-    if (text[0] == 0xEF) & (text[1] == 0xBB) & (text[2] == 0xBF) {
-        return 3;
-    }
-    0
 }

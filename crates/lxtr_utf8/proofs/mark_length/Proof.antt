@@ -1,9 +1,9 @@
 -- The three returns are the cases of the definition.
 use borrow.Author.Needs.{needs}
 use native.Mathlib.Omega.{arith}
-use Rattle.lxtr_words.specs.Marks.{too-short, marked, unmarked}
-use Rattle.lxtr_words.proofs.mark_length.Statement.{statement}
-use Rattle.lxtr_words.proofs.mark_length.Tie as tie
+use Rattle.lxtr_utf8.specs.Marks.{too-short, marked, unmarked}
+use Rattle.lxtr_utf8.proofs.mark_length.Statement.{statement}
+use Rattle.lxtr_utf8.proofs.mark_length.Tie as tie
 
 pub mark-length-spec : {M : Type 1} → statement M
 mark-length-spec =
