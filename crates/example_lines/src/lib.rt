@@ -1,8 +1,8 @@
 // Reading a line of the script of `run_examples`: the command's name, its decimal numbers, and its bytes. Bytes are written as
 // hexadecimal numbers of two digits to a byte, a space before each number; NUMBER*N stands for the number N times, NUMBER+N for N
 // numbers that rise from it by 1.
-use lxtr_output::behind;
-use lxtr_output::byte_at;
+use lxtr_output::parts::behind;
+use lxtr_output::parts::byte_at;
 
 // Room for the bytes of a line, and for an image.
 pub const ROOM: usize = 32768;
@@ -34,6 +34,9 @@ pub const BUILD: u64 = 0x6275696C64;
 
 // The base in which a name is a number.
 const LETTERS: u64 = 256;
+
+// No digit of any base has this value.
+const NO_DIGIT: u64 = 256;
 
 // What a line asks: the command, its numbers, and how many bytes it has. `is_read` is false where the line has not its form.
 pub struct Request {
@@ -71,10 +74,10 @@ fn letter_value(c: u8) -> u64 {
     if (b'a' <= c) & (c <= b'z') {
         return c as u64;
     }
-    256
+    NO_DIGIT
 }
 
-// What a digit stands for; 256 for anything else.
+// What a digit stands for; NO_DIGIT for anything else.
 fn digit_value(c: u8, base: u64) -> u64 {
     if base == LETTERS {
         return letter_value(c);
@@ -85,7 +88,7 @@ fn digit_value(c: u8, base: u64) -> u64 {
     if (b'A' <= c) & (c <= b'F') {
         return c as u64 % 16 + 9;
     }
-    256
+    NO_DIGIT
 }
 
 // The number with one more digit; of a long one the front is lost.
@@ -217,6 +220,7 @@ fn read_bytes(line: &[u8], at: usize, bytes: &mut [u8; ROOM]) -> Operand {
         left -= 1;
         if line.len() <= i {
             return Operand {
+                // where the room is full, bytes may be lost
                 is_read: size < ROOM,
                 size: size,
             };

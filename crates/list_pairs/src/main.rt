@@ -1,5 +1,5 @@
 // The listing program: reads a key list on standard input, builds its image and prints the completions of the empty prefix, a line
-// for each pair. What a line says is decided by `lxtr_text`.
+// for each pair. What a line says is decided by `lxtr_lines`.
 ghost use mathlib.Core.Path.{_≡_};
 ghost use mathlib.Core.Bool.{true};
 ghost use Rattle.lxtr_lines.specs.Records.{isWholeRecord};

@@ -1,18 +1,18 @@
 // Checks LXTR images: whether any bytes are an image, and of how many pairs. Each of rules 9 to 12 is a crate of its own. Any caller
-// may use `check` and `image_refusal`; `body_refusal` is for the crates above.
+// may use `check`; `image_refusal` and `body_refusal` are for the crates above.
 ghost use mathlib.Core.Path.{_≡_};
 ghost use Prim.Native.Nat.{_<_};
 ghost use Rattle.lxtr_spec.specs.Image.{slotCount};
 ghost use Rattle.lxtr_spec.specs.Refusals.{bodyRefusal, imageRefusal, isEnd, endCount, checkOf};
 ghost use Rattle.lxtr_laws.specs.Passed.{Whole, Passed};
+use lxtr_check_labels::labels_wrong;
+use lxtr_check_lists::lists_wrong;
+use lxtr_check_reach::some_unreachable;
+use lxtr_check_slots::is_used_from_2;
+use lxtr_check_slots::slots_wrong;
 use lxtr_header::header_refusal;
 use lxtr_image::nodes::is_leaf;
 use lxtr_image::sections::slot_count;
-use lxtr_labels::labels_wrong;
-use lxtr_lists::lists_wrong;
-use lxtr_reach::some_unreachable;
-use lxtr_slots::is_used_from_2;
-use lxtr_slots::slots_wrong;
 use lxtr_spec::Verdict;
 use lxtr_spec::refusals::UNREACHABLE;
 use lxtr_spec::refusals::WRONG_LABELS;

@@ -7,18 +7,18 @@ ghost use Rattle.lxtr_spec.specs.Image.{slotCount, childCount, offset, listWidt
 ghost use Rattle.lxtr_spec.specs.Refusals.{slotsWrong, offsetFalls, childless};
 ghost use Rattle.lxtr_spec.specs.FaultPlaces.{entryFaultOf, isEntry, unlisted, listFault};
 ghost use Rattle.lxtr_laws.specs.Passed.{Whole, Passed};
+use lxtr_check_lists::childless;
+use lxtr_check_lists::first_falling;
+use lxtr_check_lists::first_wrong_entry;
+use lxtr_check_lists::first_wrong_list;
+use lxtr_check_lists::used_count;
+use lxtr_check_slots::is_used_from_2;
 use lxtr_image::lists::child_at;
 use lxtr_image::lists::list_width;
 use lxtr_image::lists::offset_at;
 use lxtr_image::nodes::parent_of;
 use lxtr_image::sections::child_count;
 use lxtr_image::sections::slot_count;
-use lxtr_lists::childless;
-use lxtr_lists::first_falling;
-use lxtr_lists::first_wrong_entry;
-use lxtr_lists::first_wrong_list;
-use lxtr_lists::used_count;
-use lxtr_slots::is_used_from_2;
 use lxtr_spec::Fault;
 
 // The first wrong entry of the list of slot p, by its place in the children array.

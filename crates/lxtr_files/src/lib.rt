@@ -1,6 +1,7 @@
 // Files read into lent room and written whole. What the system refuses is told on standard error, with its reason.
 ghost use Prim.Native.Nat.{_≤_};
 ghost use lib.ListN.{length};
+use lxtr_bytes::heads::HEAD_LENGTH;
 use lxtr_lines::joined;
 use lxtr_messages::FAILED;
 use lxtr_messages::LARGE_FILE;
@@ -16,7 +17,7 @@ pub const LARGEST_FILE: usize = 24
     + 8 * MAX_SLOTS
     + 4 * (MAX_SLOTS + 1)
     + 4 * (MAX_SLOTS - 2)
-    + (5 + 4 * MAX_LISTED);
+    + (HEAD_LENGTH + 4 * MAX_LISTED);
 
 // Room for a file, and one byte more, so that a larger file is known. It is lent as an array, so that no proof has to count its elements.
 pub const FILE_ROOM: usize = LARGEST_FILE + 1;

@@ -7,6 +7,8 @@ ghost use lib.ListN.{length};
 ghost use Rattle.lxtr_spec.specs.Image.{headerLength};
 ghost use Rattle.lxtr_spec.specs.Refusals.{magicDiffers, versionWrong, reservedSet, sizesWrong, lengthWrong, mapWrong, offsetEndsWrong, refuseIf, headerRefusal};
 ghost use Rattle.lxtr_laws.specs.Passed.{Sized, Whole};
+use lxtr_bytes::heads::HEAD_LENGTH;
+use lxtr_bytes::heads::VERSION;
 use lxtr_bytes::numbers::le32_at;
 use lxtr_bytes::numbers::word;
 use lxtr_image::code_map::label_count;
@@ -90,11 +92,11 @@ fn map_wrong(image: &[u8]) -> bool
     ensures { λ r. ⌜ r ≡ mapWrong (now (image .entry)) ⌝ }
 {
     let size = map_length(image) as usize;
-    if size < 5 {
+    if size < HEAD_LENGTH {
         return true;
     }
     let labels = label_count(image) as usize;
-    (map_version(image) != 1) | (MAX_LISTED < labels) | (size != 5 + 4 * labels)
+    (map_version(image) != VERSION) | (MAX_LISTED < labels) | (size != HEAD_LENGTH + 4 * labels)
 }
 
 // 8: first offset not 0 or last not E.

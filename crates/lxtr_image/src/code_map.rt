@@ -41,7 +41,7 @@ fn listed_count(image: &[u8]) -> u32
     requires { ⌜ Passed (now image) ⌝ }
     ensures { λ r. ⌜ r ≡ labelCount (now (image .entry)) ⌝ }
 {
-    (map_length(image) - 5) / 4
+    (map_length(image) - HEAD_LENGTH as u32) / 4
 }
 
 // The label at place i, whose code is i + 1. The map ends the image.

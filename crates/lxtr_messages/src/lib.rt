@@ -1,11 +1,12 @@
-// What the inspector's command says: every sentence by its place in a text. No contract can say what is written; what a line says is
-// decided by `lxtr_text`.
+// What the inspector's command says: every sentence by its place in a text. No contract can say what is written; how the marks of a
+// sentence are filled is proved in `lxtr_text`.
 mod refusals; // the sentence of each refusal, and of each place at fault
 
 use lxtr_output::print;
 use lxtr_output::text_at;
 use lxtr_text::LINE_ROOM;
 use lxtr_text::forms::fill;
+pub use refusals::fault_number;
 pub use refusals::has_place;
 pub use refusals::print_fault;
 pub use refusals::print_refusal;

@@ -86,7 +86,7 @@ fn fault_case(fault: Fault) -> u8 {
 }
 
 // The number that the sentence names first, and the second.
-fn fault_number(fault: Fault) -> u32 {
+pub fn fault_number(fault: Fault) -> u32 {
     match fault {
         Fault::Nowhere => 0,
         Fault::Label(place) => place,

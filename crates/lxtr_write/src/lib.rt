@@ -116,7 +116,12 @@ fn put_sections(
     let count = order.len();
     let offsets_at = HEADER_LENGTH + 8 * slots;
     let map_at = offsets_at + 4 * (slots + 1) + 4 * children;
-    put_header(out, slots as u32, children as u32, (5 + 4 * count) as u32);
+    put_header(
+        out,
+        slots as u32,
+        children as u32,
+        (HEAD_LENGTH + 4 * count) as u32,
+    );
     put_nodes(out, work, slots);
     put_lists(out, offsets_at, work, slots, count as u32);
     put_map(out, map_at, labels, order);
@@ -136,7 +141,7 @@ fn put_fitting(
     requires { ⌜ Counted (now work) slots children (length (now order)) ⌝ }
     ensures { λ r. ⌜ Answers (withRoom (length (now (out .entry))) (imageIn (now (work .entry)) slots (picked (now (labels .entry)) (now (order .entry))))) (now (out .entry)) r (now (out .exit)) ⌝ }
 {
-    let map_length = 5 + 4 * order.len();
+    let map_length = HEAD_LENGTH + 4 * order.len();
     let size = HEADER_LENGTH + 8 * slots + 4 * (slots + 1) + 4 * children + map_length;
     if out.len() < size {
         return Built {

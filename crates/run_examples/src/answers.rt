@@ -10,6 +10,7 @@ use crate::output::LABEL;
 use crate::output::LENGTH;
 use crate::output::LISTED;
 use crate::output::NO;
+use crate::output::NOT_READ;
 use crate::output::NOWHERE;
 use crate::output::OFFSETS;
 use crate::output::OPEN;
@@ -38,7 +39,8 @@ use crate::rooms::OUTPUT_ROOM;
 use crate::rooms::WORK_WORDS;
 use crate::rooms::is_left;
 use crate::rooms::words_are;
-use lxtr_output::front;
+use lxtr_messages::fault_number;
+use lxtr_output::parts::front;
 use lxtr_spec::Built;
 use lxtr_spec::Completion;
 use lxtr_spec::Fault;
@@ -62,21 +64,6 @@ fn fault_word(fault: Fault) -> u8 {
         Fault::Childless(s) => CHILDLESS,
         Fault::RootBase => ROOT_BASE,
         Fault::Unreachable(s) => UNREACHABLE,
-    }
-}
-
-// The number of a fault: a place in the code map, a slot, or a place in the children.
-fn fault_number(fault: Fault) -> u32 {
-    match fault {
-        Fault::Nowhere => 0,
-        Fault::Label(i) => i,
-        Fault::Slot(s) => s,
-        Fault::Offset(p) => p,
-        Fault::Entry(p, j) => j,
-        Fault::Unlisted(s) => s,
-        Fault::Childless(s) => s,
-        Fault::RootBase => 1,
-        Fault::Unreachable(s) => s,
     }
 }
 
@@ -163,6 +150,14 @@ pub fn probe(image: &[u8], query: &[u8]) {
 
 // Completion into the first bytes of a room, as many as the size says; all of them are printed.
 pub fn complete(image: &[u8], query: &[u8], size: usize) {
+    if LISTING_ROOM < size {
+        say(NOT_READ);
+        return;
+    }
+    complete_lent(image, query, size);
+}
+
+fn complete_lent(image: &[u8], query: &[u8], size: usize) {
     let mut room = [FILLING_BYTE; LISTING_ROOM];
     complete_in(image, query, &mut room, size);
 }
@@ -192,6 +187,14 @@ fn complete_room(image: &[u8], query: &[u8], room: &mut [u8]) -> Completion {
 // Builds with the first words of a work and the first bytes of an output, as many as the numbers say. The image is printed, a long one
 // not whole.
 pub fn build(keys: &[u8], words: usize, size: usize) {
+    if (WORK_WORDS < words) | (OUTPUT_ROOM < size) {
+        say(NOT_READ);
+        return;
+    }
+    build_lent(keys, words, size);
+}
+
+fn build_lent(keys: &[u8], words: usize, size: usize) {
     let mut work = [FILLING_WORD; WORK_WORDS];
     let mut out = [FILLING_BYTE; OUTPUT_ROOM];
     build_in(keys, &mut work, words, &mut out, size);
@@ -217,6 +220,7 @@ fn say_output(out: &[u8; OUTPUT_ROOM], length: usize) {
     print_bytes(front(front(out, length), PRINTED));
 }
 
+// The two tests only keep the parts within bounds.
 fn build_front(keys: &[u8], work: &mut [u32], words: usize, out: &mut [u8], size: usize) -> Built {
     if work.len() < words {
         return build_room(keys, work, out);

@@ -34,11 +34,11 @@ use example_lines::SET;
 use example_lines::put_bytes;
 use example_lines::read_request;
 use libc::STDIN_FILENO;
-use lxtr_output::behind;
-use lxtr_output::byte_at;
-use lxtr_output::find;
-use lxtr_output::front;
-use lxtr_output::part;
+use lxtr_output::parts::behind;
+use lxtr_output::parts::byte_at;
+use lxtr_output::parts::find;
+use lxtr_output::parts::front;
+use lxtr_output::parts::part;
 use lxtr_output::print;
 
 // Where a command puts its bytes into the image: `image` at the front, `more` behind it, `set` at a place.

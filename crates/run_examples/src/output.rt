@@ -17,7 +17,7 @@ pub const REFUSED: u8 = 4;
 
 pub const PAIRS: u8 = 5;
 
-pub const NONE: u8 = 6;
+const NONE: u8 = 6;
 
 pub const YES: u8 = 7;
 

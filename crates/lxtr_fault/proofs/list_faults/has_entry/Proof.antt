@@ -4,7 +4,7 @@ use mathlib.Core.Path.{_≡_}
 use Prim.Native.Nat.{_-_}
 use Rattle.lxtr_spec.specs.Image.{listWidth}
 use Rattle.lxtr_spec.specs.FaultPlaces.{isEntry}
-use Rattle.lxtr_lists.specs.ListTests.{entry-place}
+use Rattle.lxtr_check_lists.specs.ListTests.{entry-place}
 use Rattle.lxtr_laws.specs.Scans.{NoneSoFar, scan-start, scan-hit, scan-next, scan-end}
 use Rattle.lxtr_fault.proofs.list_faults.has_entry.Statement.{statement}
 use Rattle.lxtr_fault.proofs.list_faults.has_entry.Tie as tie

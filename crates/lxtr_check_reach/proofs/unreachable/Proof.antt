@@ -1,0 +1,28 @@
+-- Invariant: the steps that are left lead from slot `at` to where all of them do from slot s. If that is slot 0, slot 1 was passed.
+use borrow.Author.Needs.{needs}
+use Prim.Native.Nat.{suc}
+use Rattle.lxtr_spec.specs.Labels.{maxLabels, lengthCount}
+use Rattle.lxtr_check_reach.specs.WaysUp.{Ascending, ascend-start, ascend-by, reach-found, reach-tested}
+use Rattle.lxtr_check_reach.proofs.unreachable.Statement.{statement}
+use Rattle.lxtr_check_reach.proofs.unreachable.Tie as tie
+
+abbrev Inv-loop : tie.InvT-loop
+Inv-loop image s at₀ left₀ at left = Ascending image (suc lengthCount) s left at
+
+abbrev μ-loop : tie.MeasureT-loop
+μ-loop image s at₀ left₀ at left = left
+
+pub unreachable-spec : {M : Type 1} → statement M
+unfolding maxLabels
+unreachable-spec =
+    tie.close
+    (tie.spec
+    Inv-loop
+    μ-loop
+    (λ c. search ascend-start)
+    (λ c κs. search needs)
+    (λ c. search reach-found)
+    (λ c. search needs)
+    (λ c. search ascend-by)
+    (λ c κs. search needs)
+    (λ c. search reach-tested))
