@@ -12,6 +12,7 @@ use lxtr_lines::is_whole_record;
 use lxtr_lines::number_line;
 use lxtr_lines::pair_line;
 use lxtr_lines::record_end;
+use lxtr_spec::refusals::LIST_MALFORMED;
 use lxtr_text::LINE_ROOM;
 
 // The longest key list. One byte more is read, so that a longer input is known.
@@ -98,7 +99,7 @@ fn main() {
     let mut input = [0u8; INPUT_ROOM + 1];
     let length = io::read_full(STDIN_FILENO, &mut input);
     if INPUT_ROOM < length {
-        print_refusal(15);
+        print_refusal(LIST_MALFORMED);
         return;
     }
     list_keys(&input[..length]);
