@@ -24,7 +24,7 @@ use Rattle.lxtr_build_laws.specs.UsedLabels.{Uses, used-members, used-ri
 -- ---- ranking, where f gives the frequencies
 
 module _ (f : ℕ → ℕ) where
-  abbrev Before : ℕ → ℕ → Type 0
+  abbrev pub Before : ℕ → ℕ → Type 0
   Before x y = goesBefore f x y ≡ true
 
   -- the order in numbers
@@ -32,7 +32,7 @@ module _ (f : ℕ → ℕ) where
   unfolding goesBefore
   before-is x y e = ⊎-elim (λ l. inl (ltb-is-true (f y) (f x) .0 l)) (λ r. inr (simp tests at r)) (or-is-true (ltb (f y) (f x)) (eqb (f x) (f y) && ltb x y) .0 e)
 
-  is-before : (x y : ℕ) → (f y < f x) ⊎ ((f x ≡ f y) × (x < y)) → Before x y
+  pub is-before : (x y : ℕ) → (f y < f x) ⊎ ((f x ≡ f y) × (x < y)) → Before x y
   unfolding goesBefore
   is-before x y (inl h) = or-is-true (ltb (f y) (f x)) (eqb (f x) (f y) && ltb x y) .1 (inl (lt-ltb (f y) (f x) h))
   is-before x y (inr h) = or-is-true (ltb (f y) (f x)) (eqb (f x) (f y) && ltb x y) .1 (inr (and-is-true (eqb (f x) (f y)) (ltb x y) .1 (eq-eqb (f x) (f y) (h .0), lt-ltb x y (h .1))))
@@ -47,7 +47,7 @@ module _ (f : ℕ → ℕ) where
       go p (no h) = let s : f x ≡ f y = omega (arith, p .0) in let l = p .1 s in let u : y ≢ x = λ z. d (sym z) in inr (sym s, omega arith)
 
   -- it is transitive, and no number goes before itself
-  before-trans : (x y z : ℕ) → Before x y → Before y z → Before x z
+  pub before-trans : (x y z : ℕ) → Before x y → Before y z → Before x z
   before-trans x y z a b = is-before x z (go (before-is x y a) (before-is y z b))
     where
       go : (f y < f x) ⊎ ((f x ≡ f y) × (x < y)) → (f z < f y) ⊎ ((f y ≡ f z) × (y < z)) → (f z < f x) ⊎ ((f x ≡ f z) × (x < z))
@@ -56,7 +56,7 @@ module _ (f : ℕ → ℕ) where
       go (inr h) (inl k) = inl (omega arith)
       go (inr h) (inr k) = inr (h .0 ∙ k .0, omega arith)
 
-  before-apart : (x y : ℕ) → Before x y → x ≢ y
+  pub before-apart : (x y : ℕ) → Before x y → x ≢ y
   before-apart x y b e = go (before-is x y b)
     where
       go : (f y < f x) ⊎ ((f x ≡ f y) × (x < y)) → ⊥

@@ -16,9 +16,9 @@ use Rattle.lxtr_spec.specs.Completions.{listingOf, roomFor, completionOf}
 use Rattle.lxtr_spec.specs.KeyLists.{keyCount, pairsOf}
 use Rattle.lxtr_spec.specs.CodeMaps.{frequency, mapOf}
 use Rattle.lxtr_spec.specs.Placing.{baseAt, checkAt, baseCount, firstFit, childCodes, place}
-use Rattle.lxtr_spec.specs.Builds.{buildOf}
 use Rattle.lxtr_spec.specs.Sets.{PairSet, Has, ImageOf}
 use Rattle.lxtr_spec.specs.Meaning.{Ordered, Lists}
+use Rattle.lxtr_demands.specs.Operations.{Operations}
 
 -- the set has these pairs, and none besides
 pub record HasExactly (d : PairSet) (ps : List Pair) : Type 0 where
@@ -43,9 +43,9 @@ pub record ReadsBack (keys image : List ℕ) : Type 0 where
       → completionOf image [] room ≡ record { answer = record { refusal = 0; count = keyCount keys; stopped = false }; room = listingOf ps ++ drop (roomFor ps) room }
 
 -- wherever building refuses nothing; the image are the bytes that it wrote at the output's front
-abbrev pub Demand2Builder : Type 0
-Demand2Builder = (keys work out : List ℕ) → buildOf keys work out .answer .refusal ≡ 0
-    → ReadsBack keys (take (buildOf keys work out .answer .length) (buildOf keys work out .output))
+abbrev pub Demand2Builder : Operations → Type 0
+Demand2Builder o = (keys work out : List ℕ) → o .build keys work out .answer .refusal ≡ 0
+    → ReadsBack keys (take (o .build keys work out .answer .length) (o .build keys work out .output))
 
 -- First fit. Every child's slot under the base b, where the children have the codes cs, is free and lies in 2 to S-1:
 pub record Fits (S : ℕ) (w cs : List ℕ) (b : ℕ) : Type 0 where
@@ -76,14 +76,19 @@ pub record FirstFit : Type 0 where
   -- That is what firstFit finds, and it finds none only where none fits.
   pub found : (S : ℕ) (w cs : List ℕ) (b : ℕ) → firstFit S w cs ≡ some b → SmallestFit S w cs b
   pub none-fits : (S : ℕ) (w cs : List ℕ) (b : ℕ) → firstFit S w cs ≡ none → Fits S w cs b → ⊥
+  -- There is one such base.
+  pub one-fit : (S : ℕ) (w cs : List ℕ) (a b : ℕ) → SmallestFit S w cs a → SmallestFit S w cs b → a ≡ b
 
--- The code map lists the labels that the keys use, and no other; higher frequency gets the smaller code, equal ones go by smaller label.
+-- The labels that the keys use, and no other, in the order of their codes: higher frequency gets the smaller code, equal ones go by smaller label.
 abbrev pub FrequencyBefore : List Pair → ℕ → ℕ → Type 0
 FrequencyBefore ps x y = (frequency ps y < frequency ps x) ⊎ ((frequency ps x ≡ frequency ps y) × (x < y))
 
-pub record ByFrequency (ps : List Pair) : Type 0 where
-  pub used : (x : ℕ) → List·Memᴰ x (mapOf ps) ↔ ((p : Pair) × List·Memᴰ p ps × List·Memᴰ x (p .0))
-  pub ordered : Ordered (FrequencyBefore ps) (mapOf ps)
+pub record ByFrequency (ps : List Pair) (labels : List ℕ) : Type 0 where
+  pub used : (x : ℕ) → List·Memᴰ x labels ↔ ((p : Pair) × List·Memᴰ p ps × List·Memᴰ x (p .0))
+  pub ordered : Ordered (FrequencyBefore ps) labels
 
-abbrev pub CodesByFrequency : Type 0
-CodesByFrequency = (ps : List Pair) → ByFrequency ps
+pub record CodesByFrequency : Type 0 where
+  -- The code map lists these.
+  pub listed : (ps : List Pair) → ByFrequency ps (mapOf ps)
+  -- There is one such list.
+  pub one-map : (ps : List Pair) (labels others : List ℕ) → ByFrequency ps labels → ByFrequency ps others → labels ≡ others

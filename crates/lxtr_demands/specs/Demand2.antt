@@ -1,5 +1,5 @@
 -- Demand 2 for the searches and completions: what each answers over an image is what the image's set of pairs says.
--- Only the statements; the proofs are `demand2` in Laws/Demand2.antt and `searches-agree` in Laws/Searches.antt.
+-- Only the statements, of any program; that the definitions meet them is `demand2` in Laws/Demand2.antt and `searches-agree` in Laws/Searches.antt.
 use Prim.Native.Nat.{ℕ, _*_, _%_, _≤_}
 use mathlib.Core.Path.{_≡_}
 use mathlib.Core.Logic.{_↔_}
@@ -8,50 +8,51 @@ use mathlib.Core.Bool.{true}
 use lib.ListN.{length, take, drop}
 use lib.Dec.{ltb}
 use Rattle.lxtr_spec.specs.Labels.{labelsOf, Pair}
-use Rattle.lxtr_spec.specs.Searches.{searchRefusal, exactValue, exactOf, prefixesAnswer, prefixesOf, longestOf, probeOf}
-use Rattle.lxtr_spec.specs.Completions.{listingOf, roomFor, completionOf}
+use Rattle.lxtr_spec.specs.Searches.{searchRefusal, exactValue, prefixesAnswer}
+use Rattle.lxtr_spec.specs.Completions.{listingOf, roomFor}
 use Rattle.lxtr_spec.specs.Sets.{PairSet, ImageOf}
 use Rattle.lxtr_spec.specs.Meaning.{PrefixesIn, LongestIn, Longer, Lists, FittingFront}
+use Rattle.lxtr_demands.specs.Operations.{Operations, defined}
 
--- exact, prefixes, longest and probe's value for the query q, whose labels are xs, by the set d
-pub record Searched (b : List ℕ) (d : PairSet) (q xs : List ℕ) : Type 0 where
+-- exact, prefixes, longest and probe's value of the program o for the query q, whose labels are xs, by the set d
+pub record Searched (o : Operations) (b : List ℕ) (d : PairSet) (q xs : List ℕ) : Type 0 where
   -- Exact: the value number or none.
-  pub exact : exactOf b q ≡ record { refusal = 0; value = d xs }
+  pub exact : o .exact b q ≡ record { refusal = 0; value = d xs }
   -- And of each front part of the query.
-  pub exact-front : (n : ℕ) → 4 * n ≤ length q → exactOf b (take (4 * n) q) ≡ record { refusal = 0; value = d (take n xs) }
+  pub exact-front : (n : ℕ) → 4 * n ≤ length q → o .exact b (take (4 * n) q) ≡ record { refusal = 0; value = d (take n xs) }
   -- Prefixes: length and value of each prefix that is a key, shortest first. There is one such list.
-  pub prefixes : (ms : List (ℕ × ℕ)) → PrefixesIn d xs ms → prefixesOf b q ≡ prefixesAnswer 0 ms
+  pub prefixes : (ms : List (ℕ × ℕ)) → PrefixesIn d xs ms → o .prefixes b q ≡ prefixesAnswer 0 ms
   pub some-prefixes : (ms : List (ℕ × ℕ)) × PrefixesIn d xs ms
   pub one-prefixes : (ms ns : List (ℕ × ℕ)) → PrefixesIn d xs ms → PrefixesIn d xs ns → ms ≡ ns
   -- Longest: the longest of these, as the front part of the query; empty if none. There is one such length.
-  pub longest : (n : ℕ) → LongestIn d xs n → longestOf b q ≡ record { refusal = 0; part = take (4 * n) q }
+  pub longest : (n : ℕ) → LongestIn d xs n → o .longest b q ≡ record { refusal = 0; part = take (4 * n) q }
   pub some-longest : (n : ℕ) × LongestIn d xs n
   pub one-longest : (m n : ℕ) → LongestIn d xs m → LongestIn d xs n → m ≡ n
   -- Probe: value or none.
-  pub probe-refusal : probeOf b q .refusal ≡ 0
-  pub probe-value : probeOf b q .value ≡ d xs
+  pub probe-refusal : o .probe b q .refusal ≡ 0
+  pub probe-value : o .probe b q .value ≡ d xs
 
 -- these and the other answers, over an image b of the set d
-pub record Answered (b : List ℕ) (d : PairSet) (q xs : List ℕ) : Type 0 where
-  pub searched : Searched b d q xs
+pub record Answered (o : Operations) (b : List ℕ) (d : PairSet) (q xs : List ℕ) : Type 0 where
+  pub searched : Searched o b d q xs
   -- Probe: whether longer keys exist.
-  pub probe-longer : (probeOf b q .longer ≡ true) ↔ Longer d xs
+  pub probe-longer : (o .probe b q .longer ≡ true) ↔ Longer d xs
   -- Completions: the pairs whose keys begin with the labels, in code order. There is one such list.
   pub some-listing : (ps : List Pair) × Lists b d xs ps
   pub one-listing : (ps rs : List Pair) → Lists b d xs ps → Lists b d xs rs → ps ≡ rs
   -- Into lent room of 5 bytes or more it writes the front part of this list that has room, and says whether it stopped
   -- before the end. There is one such part.
   pub completion : (ps fit : List Pair) (room : List ℕ) → Lists b d xs ps → 5 ≤ length room → FittingFront (length room) ps fit
-      → completionOf b q room ≡ record { answer = record { refusal = 0; count = length fit; stopped = ltb (length fit) (length ps) }; room = listingOf fit ++ drop (roomFor fit) room }
+      → o .complete b q room ≡ record { answer = record { refusal = 0; count = length fit; stopped = ltb (length fit) (length ps) }; room = listingOf fit ++ drop (roomFor fit) room }
   pub some-front : (ps : List Pair) (room : List ℕ) → 5 ≤ length room → (fit : List Pair) × FittingFront (length room) ps fit
   pub one-front : (ps fit other : List Pair) (room : List ℕ) → FittingFront (length room) ps fit → FittingFront (length room) ps other → fit ≡ other
 
 -- for every image, and every query whose length is a multiple of four
-abbrev pub Demand2 : Type 0
-Demand2 = (b : List ℕ) (d : PairSet) (q : List ℕ) → ImageOf b d → length q % 4 ≡ 0 → Answered b d q (labelsOf q)
+abbrev pub Demand2 : Operations → Type 0
+Demand2 o = (b : List ℕ) (d : PairSet) (q : List ℕ) → ImageOf b d → length q % 4 ≡ 0 → Answered o b d q (labelsOf q)
 
 -- What of this needs no check: where 1 to 8 and 13 refuse nothing, and whether or not the image is accepted, the searches speak
 -- of the same pairs, those that exact finds. So prefixes are the lengths and values at which exact finds a value, longest is
 -- the last of them, and probe's value is exact's.
 abbrev pub SearchesAgree : Type 0
-SearchesAgree = (b q : List ℕ) → searchRefusal b q ≡ 0 → Searched b (exactValue b) q (labelsOf q)
+SearchesAgree = (b q : List ℕ) → searchRefusal b q ≡ 0 → Searched defined b (exactValue b) q (labelsOf q)

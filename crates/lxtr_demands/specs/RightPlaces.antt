@@ -1,5 +1,5 @@
 -- Where a fault lies: the place that is answered is the first at which the rule does not hold. One answer is right, and no other.
--- Only the statement; the proof is `fault-right` in Laws/FaultPlaces.antt.
+-- Only the statement; the proof is `fault-right` in Laws/RightPlaces.antt.
 use Prim.Native.Nat.{ℕ, _≤_, _<_}
 use mathlib.Core.Path.{_≡_}
 use mathlib.Core.Logic.{_≢_}

@@ -1,177 +1,311 @@
--- What the demands rule out, whatever else a program does. Some bytes are an image and some are none: P3 is one, P10 is not, though
--- its lists and parents agree with each other. So no check that refuses P3 or accepts P10 meets demand 3; and over P3 and P11 no search
--- with a constant answer meets demand 2, no longest match that is always empty, and no completion that writes nothing or counts nothing.
-use Prim.Native.Nat.{ℕ, _*_, _%_, _≤_}
+-- What the demands rule out. Each statement is of every possible program o that meets a demand, whatever else it does: over an image its
+-- answers are those of the definitions and no others, so a program of each kind that document 01 names under "What the promises rule out" fails.
+use Prim.Native.Nat.{ℕ, zero, suc, _%_, _≤_, _<_}
 use native.Mathlib.Omega.{arith}
-use mathlib.Core.Path.{_≡_, refl, sym, ap, _∙_}
-use mathlib.Core.Logic.{_≢_, _↔_}
-use mathlib.Core.List.{List, [], _∷_, _++_}
+use mathlib.Core.Path.{_≡_, refl, sym, ap, _∙_, subst}
+use mathlib.Core.Logic.{_≢_, _↔_, inr}
+use mathlib.Core.List.{List, [], _∷_, _++_, List·Memᴰ, append-nil}
 use mathlib.Core.Option.{Option, some, none}
-use mathlib.Core.Bool.{cond}
-use lib.ListN.{length, take, drop, getD, replicate}
-use lib.Dec.{ltb}
-use Rattle.lxtr_spec.specs.Numbers.{beWords}
+use mathlib.Core.Bool.{Bool, true, false, true≢false}
+use lib.ListN.{length, take, getD, replicate}
 use Rattle.lxtr_spec.specs.Labels.{labelsOf, Pair}
-use Rattle.lxtr_spec.specs.Refusals.{checkOf}
-use Rattle.lxtr_spec.specs.Searches.{ExactAnswer, LongestAnswer, ProbeAnswer, exactOf, prefixesAnswer, prefixesOf, longestOf, probeOf}
-use Rattle.lxtr_spec.specs.Completions.{CompletionAnswer, listingOf, roomFor, completionOf}
-use Rattle.lxtr_spec.specs.Sets.{PairSet, ImageOf}
-use Rattle.lxtr_spec.specs.Meaning.{PrefixesIn, LongestIn, Lists, FittingFront}
-use Rattle.lxtr_spec.specs.Samples.{p3, p10, p11}
+use Rattle.lxtr_spec.specs.Image.{magic, slotCount, parent}
+use Rattle.lxtr_spec.specs.Refusals.{usedCount, checkOf}
+use Rattle.lxtr_spec.specs.Searches.{ExactAnswer, LongestAnswer, exactOf, prefixesOf, longestOf, probeOf}
+use Rattle.lxtr_spec.specs.Completions.{CompletionAnswer, completionOf}
+use Rattle.lxtr_spec.specs.KeyLists.{pairsOf}
+use Rattle.lxtr_spec.specs.CodeMaps.{mapOf}
+use Rattle.lxtr_spec.specs.FaultPlaces.{faultOf}
+use Rattle.lxtr_spec.specs.Sets.{PairSet, Prefix, Has, ImageOf}
+use Rattle.lxtr_spec.specs.Meaning.{Lists, FittingFront}
+use Rattle.lxtr_spec.specs.Samples.{p1, p2, p3, p7, p8-check, p8-slot, p9-labels, p9-longer, p10, p11}
 use Rattle.lxtr_spec.specs.declared.Verdict.{Verdict}
 use Rattle.lxtr_spec.specs.declared.Prefixes.{Prefixes}
+use Rattle.lxtr_spec.specs.declared.Fault.{Fault}
+use Rattle.lxtr_spec.specs.declared.Fault.the-variants.{Entry}
+use Rattle.lxtr_demands.specs.Operations.{Operations}
+use Rattle.lxtr_demands.specs.Demand2.{Demand2}
+use Rattle.lxtr_demands.specs.Demand3.{Demand3}
+use Rattle.lxtr_demands.specs.Builder.{Demand2Builder, Fits, SmallestFit, ByFrequency}
+use Rattle.lxtr_demands.specs.RightPlaces.{Right}
 use Rattle.lxtr_demands.specs.Rows.{computing}
 use Rattle.lxtr_demands.specs.Laws.Demand2.{demand2}
 use Rattle.lxtr_demands.specs.Laws.Demand3.{demand3}
+use Rattle.lxtr_demands.specs.Laws.Builder.{codes-by-frequency}
+use Rattle.lxtr_demands.specs.Laws.RightPlaces.{fault-right}
 
-pub p3-is-image : (d : PairSet) × ImageOf p3 d
+-- ---- images: P1, P2, P3 and P11 are images of a set, and P7 to P10 of none
+
+abbrev pub IsImage : List ℕ → Type 0
+IsImage b = (d : PairSet) × ImageOf b d
+
+pub p1-is-image : IsImage p1
+unfolding computing
+p1-is-image = demand3 p1 .passes .0 refl
+
+pub p2-is-image : IsImage p2
+unfolding computing
+p2-is-image = demand3 p2 .passes .0 refl
+
+pub p3-is-image : IsImage p3
 unfolding computing
 p3-is-image = demand3 p3 .passes .0 refl
 
-p11-is-image : (d : PairSet) × ImageOf p11 d
+pub p11-is-image : IsImage p11
 unfolding computing
 p11-is-image = demand3 p11 .passes .0 refl
 
-p10-refused : checkOf p10 .refusal ≡ 12
+-- bytes that the check refuses are an image of no set
+refused-is-none : (b : List ℕ) (k : ℕ) → checkOf b .refusal ≡ k → 1 ≤ k → IsImage b → ⊥
+refused-is-none b k e h image = omega (arith, e, demand3 b .passes .1 image)
+
+pub p7-is-none : IsImage p7 → ⊥
 unfolding computing
-p10-refused = refl
+p7-is-none = refused-is-none p7 11 refl (omega arith)
 
-pub p10-is-no-image : (d : PairSet) → ImageOf p10 d → ⊥
-p10-is-no-image d i = omega (arith, p10-refused, demand3 p10 .passes .1 (d, i))
-
--- what demand 3 says first, of any check: one that refuses P3 fails it, and one that accepts P10
-abbrev Passes : (List ℕ → Verdict) → Type 0
-Passes check = (b : List ℕ) → (check b .refusal ≡ 0) ↔ ((d : PairSet) × ImageOf b d)
-
-pub refuses-p3-fails : (check : List ℕ → Verdict) → Passes check → check p3 .refusal ≢ 0 → ⊥
-refuses-p3-fails check passes refuses = refuses (passes p3 .1 p3-is-image)
-
-pub accepts-p10-fails : (check : List ℕ → Verdict) → Passes check → check p10 .refusal ≡ 0 → ⊥
-accepts-p10-fails check passes accepts = let (d, image) = passes p10 .0 accepts in p10-is-no-image d image
-
--- so does one that refuses all, and one that accepts all
-pub refuses-all-fails : (check : List ℕ → Verdict) → Passes check → ((b : List ℕ) → check b .refusal ≢ 0) → ⊥
-refuses-all-fails check passes refuses = refuses-p3-fails check passes (refuses p3)
-
-pub accepts-all-fails : (check : List ℕ → Verdict) → Passes check → ((b : List ℕ) → check b .refusal ≡ 0) → ⊥
-accepts-all-fails check passes accepts = accepts-p10-fails check passes (accepts p10)
-
--- what demand 3 says of the number of pairs: a check that answers none for every image fails it, over P3
-abbrev Counts : (List ℕ → Verdict) → Type 0
-Counts check = (b : List ℕ) (d : PairSet) (ps : List Pair) → ImageOf b d → Lists b d [] ps → check b ≡ record { refusal = 0; pairs = length ps }
-
-p3-pairs : checkOf p3 .pairs ≡ 2
+pub p8-check-is-none : IsImage p8-check → ⊥
 unfolding computing
-p3-pairs = refl
+p8-check-is-none = refused-is-none p8-check 10 refl (omega arith)
 
-pub no-pairs-fails : (check : List ℕ → Verdict) → Counts check → ((b : List ℕ) → check b .pairs ≡ 0) → ⊥
-no-pairs-fails check counts nothing =
-    let (d, image) = p3-is-image in
-    let (ps, are) = demand3 p3 .listing d image in
-    let same : check p3 ≡ checkOf p3 = counts p3 d ps image are ∙ sym (demand3 p3 .answer d ps image are) in
-    omega (arith, nothing p3, ap (λ (v : Verdict). v .pairs) same, p3-pairs)
+pub p8-slot-is-none : IsImage p8-slot → ⊥
+unfolding computing
+p8-slot-is-none = refused-is-none p8-slot 10 refl (omega arith)
 
--- two queries of P4 to P6: 6E, and 61, which is no key
-abbrev six-e : List ℕ
-six-e = 0 ∷ 0 ∷ 0 ∷ 0x6E ∷ []
+pub p9-labels-is-none : IsImage p9-labels → ⊥
+unfolding computing
+p9-labels-is-none = refused-is-none p9-labels 9 refl (omega arith)
 
-abbrev six-one : List ℕ
-six-one = 0 ∷ 0 ∷ 0 ∷ 0x61 ∷ []
+pub p9-longer-is-none : IsImage p9-longer → ⊥
+unfolding computing
+p9-longer-is-none = refused-is-none p9-longer 6 refl (omega arith)
+
+pub p10-is-none : IsImage p10 → ⊥
+unfolding computing
+p10-is-none = refused-is-none p10 12 refl (omega arith)
+
+-- ---- demand 3
+
+p3-counts : (checkOf p3 .pairs ≡ 2) × (usedCount p3 ≡ 4)
+unfolding computing
+p3-counts = (refl, refl)
+
+p11-counts : checkOf p11 .pairs ≡ 3
+unfolding computing
+p11-counts = refl
+
+module _ (o : Operations) (meets : (b : List ℕ) → Demand3 o b) where
+  -- Over an image no other verdict meets it.
+  pub only-check : (b : List ℕ) → IsImage b → o .check b ≡ checkOf b
+  only-check b (d, image) = let (ps, are) = meets b .listing d image in meets b .answer d ps image are ∙ sym (demand3 b .answer d ps image are)
+
+  -- A check that refuses an image, or accepts what is none, fails: so does one that refuses all, on P3, and one that accepts all, on P10.
+  pub refused-image-fails : (b : List ℕ) → IsImage b → o .check b .refusal ≢ 0 → ⊥
+  refused-image-fails b image refuses = refuses (meets b .passes .1 image)
+
+  pub accepted-other-fails : (b : List ℕ) → (IsImage b → ⊥) → o .check b .refusal ≡ 0 → ⊥
+  accepted-other-fails b no-image accepts = no-image (meets b .passes .0 accepts)
+
+  pub refuses-all-fails : ((b : List ℕ) → o .check b .refusal ≢ 0) → ⊥
+  refuses-all-fails refuses = refused-image-fails p3 p3-is-image (refuses p3)
+
+  pub accepts-all-fails : ((b : List ℕ) → o .check b .refusal ≡ 0) → ⊥
+  accepts-all-fails accepts = accepted-other-fails p10 p10-is-none (accepts p10)
+
+  -- A made-up pair count fails: any number that is not that of the set's pairs. So does the same number for all images, and the number of used slots.
+  pub made-up-count-fails : (b : List ℕ) (d : PairSet) (ps : List Pair) → ImageOf b d → Lists b d [] ps → o .check b .pairs ≢ length ps → ⊥
+  made-up-count-fails b d ps image are other = other (ap (λ (v : Verdict). v .pairs) (meets b .answer d ps image are))
+
+  pairs-of : (b : List ℕ) → IsImage b → o .check b .pairs ≡ checkOf b .pairs
+  pairs-of b image = ap (λ (v : Verdict). v .pairs) (only-check b image)
+
+  pub constant-count-fails : (n : ℕ) → ((b : List ℕ) → o .check b .pairs ≡ n) → ⊥
+  constant-count-fails n same = omega (arith, pairs-of p3 p3-is-image, pairs-of p11 p11-is-image, same p3, same p11, p3-counts .0, p11-counts)
+
+  pub counted-slots-fail : ((b : List ℕ) → o .check b .pairs ≡ usedCount b) → ⊥
+  counted-slots-fail same = omega (arith, pairs-of p3 p3-is-image, same p3, p3-counts .0, p3-counts .1)
+
+-- ---- demand 2: the searches and completions
+
+-- three queries of P4 to P6: 6E; 6E 61; and 61, which is no key
+abbrev q6e : List ℕ
+q6e = 0 ∷ 0 ∷ 0 ∷ 0x6E ∷ []
+
+abbrev q6e61 : List ℕ
+q6e61 = 0 ∷ 0 ∷ 0 ∷ 0x6E ∷ 0 ∷ 0 ∷ 0 ∷ 0x61 ∷ []
+
+abbrev q61 : List ℕ
+q61 = 0 ∷ 0 ∷ 0 ∷ 0x61 ∷ []
 
 or-1 : Option ℕ → ℕ
 or-1 none = 1
 or-1 (some v) = v
 
--- what demand 2 says of any exact match: one with a constant answer fails it
-abbrev ExactSays : (List ℕ → List ℕ → ExactAnswer) → Type 0
-ExactSays exact = (b : List ℕ) (d : PairSet) (q : List ℕ) → ImageOf b d → length q % 4 ≡ 0 → exact b q ≡ record { refusal = 0; value = d (labelsOf q) }
-
-exact-differs : exactOf p3 six-e ≡ exactOf p3 six-one → ⊥
+exact-differs : exactOf p3 q6e .value ≡ exactOf p3 q61 .value → ⊥
 unfolding computing or-1
-exact-differs e = let z : _≡_ {A = ℕ} 0 1 = ap (λ (r : ExactAnswer). or-1 (r .value)) e in omega arith
+exact-differs e = let z : _≡_ {A = ℕ} 0 1 = ap or-1 e in omega arith
 
-pub constant-exact-fails : (exact : List ℕ → List ℕ → ExactAnswer) → ExactSays exact → ((q r : List ℕ) → exact p3 q ≡ exact p3 r) → ⊥
-constant-exact-fails exact says same = exact-differs (sym (agrees six-e refl) ∙ same six-e six-one ∙ agrees six-one refl)
-  where
-    agrees : (q : List ℕ) → length q % 4 ≡ 0 → exact p3 q ≡ exactOf p3 q
-    agrees q whole = let (d, image) = p3-is-image in says p3 d q image whole ∙ sym (demand2 p3 d q image whole .searched .exact)
-
--- any prefixes,
-abbrev PrefixesSay : (List ℕ → List ℕ → Prefixes) → Type 0
-PrefixesSay prefixes = (b : List ℕ) (d : PairSet) (q : List ℕ) (ms : List (ℕ × ℕ)) → ImageOf b d → length q % 4 ≡ 0 → PrefixesIn d (labelsOf q) ms → prefixes b q ≡ prefixesAnswer 0 ms
-
-prefixes-differ : prefixesOf p3 six-e ≡ prefixesOf p3 six-one → ⊥
+prefixes-differ : (prefixesOf p3 q6e .count ≡ 1) × (prefixesOf p3 q61 .count ≡ 0)
 unfolding computing
-prefixes-differ e = let z : _≡_ {A = ℕ} 1 0 = ap (λ (p : Prefixes). p .count) e in omega arith
+prefixes-differ = (refl, refl)
 
-pub constant-prefixes-fail : (prefixes : List ℕ → List ℕ → Prefixes) → PrefixesSay prefixes → ((q r : List ℕ) → prefixes p3 q ≡ prefixes p3 r) → ⊥
-constant-prefixes-fail prefixes say same = prefixes-differ (sym (agree six-e refl) ∙ same six-e six-one ∙ agree six-one refl)
-  where
-    agree : (q : List ℕ) → length q % 4 ≡ 0 → prefixes p3 q ≡ prefixesOf p3 q
-    agree q whole =
-        let (d, image) = p3-is-image in
-        let searched = demand2 p3 d q image whole .searched in
-        let (ms, are) = searched .some-prefixes in
-        say p3 d q ms image whole are ∙ sym (searched .prefixes ms are)
-
--- any longest match: one that is always empty fails it,
-abbrev LongestSays : (List ℕ → List ℕ → LongestAnswer) → Type 0
-LongestSays longest = (b : List ℕ) (d : PairSet) (q : List ℕ) (n : ℕ) → ImageOf b d → length q % 4 ≡ 0 → LongestIn d (labelsOf q) n → longest b q ≡ record { refusal = 0; part = take (4 * n) q }
-
-longest-not-empty : length (longestOf p3 six-e .part) ≡ 4
+longest-differ : (length (longestOf p3 q6e .part) ≡ 4) × (length (longestOf p3 q61 .part) ≡ 0)
 unfolding computing
-longest-not-empty = refl
+longest-differ = (refl, refl)
 
-pub empty-longest-fails : (longest : List ℕ → List ℕ → LongestAnswer) → LongestSays longest → ((q : List ℕ) → longest p3 q .part ≡ []) → ⊥
-empty-longest-fails longest says empty =
-    let (d, image) = p3-is-image in
-    let searched = demand2 p3 d six-e image refl .searched in
-    let (n, is) = searched .some-longest in
-    let same : longest p3 six-e ≡ longestOf p3 six-e = says p3 d six-e n image refl is ∙ sym (searched .longest n is) in
-    omega (arith, longest-not-empty, ap (λ (a : LongestAnswer). length (a .part)) same, ap length (empty six-e))
-
--- any probe,
-abbrev ProbeSays : (List ℕ → List ℕ → ProbeAnswer) → Type 0
-ProbeSays probe = (b : List ℕ) (d : PairSet) (q : List ℕ) → ImageOf b d → length q % 4 ≡ 0 → probe b q .value ≡ d (labelsOf q)
-
-probe-differs : probeOf p3 six-e .value ≡ probeOf p3 six-one .value → ⊥
+probe-differs : probeOf p3 q6e .value ≡ probeOf p3 q61 .value → ⊥
 unfolding computing or-1
 probe-differs e = let z : _≡_ {A = ℕ} 0 1 = ap or-1 e in omega arith
 
-pub constant-probe-fails : (probe : List ℕ → List ℕ → ProbeAnswer) → ProbeSays probe → ((q r : List ℕ) → probe p3 q ≡ probe p3 r) → ⊥
-constant-probe-fails probe says same =
-    probe-differs (sym (agrees six-e refl) ∙ ap (λ (r : ProbeAnswer). r .value) (same six-e six-one) ∙ agrees six-one refl)
-  where
-    agrees : (q : List ℕ) → length q % 4 ≡ 0 → probe p3 q .value ≡ probeOf p3 q .value
-    agrees q whole = let (d, image) = p3-is-image in says p3 d q image whole ∙ sym (demand2 p3 d q image whole .searched .probe-value)
-
--- any completion: one that leaves its room as it was fails it, over P11
-abbrev CompletionSays : (List ℕ → List ℕ → List ℕ → CompletionAnswer) → Type 0
-CompletionSays complete = (b : List ℕ) (d : PairSet) (q : List ℕ) (ps fit : List Pair) (room : List ℕ) → ImageOf b d → length q % 4 ≡ 0 → Lists b d (labelsOf q) ps → 5 ≤ length room → FittingFront (length room) ps fit
-    → complete b q room ≡ record { answer = record { refusal = 0; count = length fit; stopped = ltb (length fit) (length ps) }; room = listingOf fit ++ drop (roomFor fit) room }
-
-abbrev blank : List ℕ
-blank = replicate 40 0xFF
-
-room-differs : completionOf p11 [] blank .room ≡ blank → ⊥
+longer-differs : (probeOf p3 q6e .longer ≡ true) × (probeOf p3 q6e61 .longer ≡ false)
 unfolding computing
-room-differs e = let z : _≡_ {A = ℕ} 1 255 = ap (λ (r : List ℕ). getD r 0 0) e in omega arith
+longer-differs = (refl, refl)
 
--- and so does one that answers count 0
-count-differs : completionOf p11 [] blank .answer .count ≡ 3
+-- two lent rooms over P11: one for all pairs, and one for none
+abbrev blank : ℕ → List ℕ
+blank n = replicate n 0xFF
+
+room-differs : getD (completionOf p11 [] (blank 40) .room) 0 0 ≡ 1
 unfolding computing
-count-differs = refl
+room-differs = refl
 
-lists-p11 : (complete : List ℕ → List ℕ → List ℕ → CompletionAnswer) → CompletionSays complete → complete p11 [] blank ≡ completionOf p11 [] blank
-lists-p11 complete says =
-    let (d, image) = p11-is-image in
-    let answered = demand2 p11 d [] image refl in
-    let (ps, are) = answered .some-listing in
-    let (fit, front) = answered .some-front ps blank (omega arith) in
-    says p11 d [] ps fit blank image refl are (omega arith) front ∙ sym (answered .completion ps fit blank are (omega arith) front)
+counts-differ : (completionOf p11 [] (blank 40) .answer .count ≡ 3) × (completionOf p11 [] (blank 5) .answer .count ≡ 0)
+unfolding computing
+counts-differ = (refl, refl)
 
-pub idle-completion-fails : (complete : List ℕ → List ℕ → List ℕ → CompletionAnswer) → CompletionSays complete → ((room : List ℕ) → complete p11 [] room .room ≡ room) → ⊥
-idle-completion-fails complete says idle = room-differs (sym (ap (λ (r : CompletionAnswer). r .room) (lists-p11 complete says)) ∙ idle blank)
+same-answers : (x y : Bool) → (x ≡ true ↔ y ≡ true) → x ≡ y
+same-answers true true i = refl
+same-answers true false i = sym (i .0 refl)
+same-answers false true i = i .1 refl
+same-answers false false i = refl
 
-pub uncounted-completion-fails : (complete : List ℕ → List ℕ → List ℕ → CompletionAnswer) → CompletionSays complete → ((room : List ℕ) → complete p11 [] room .answer .count ≡ 0) → ⊥
-uncounted-completion-fails complete says nothing = omega (arith, count-differs, nothing blank, ap (λ (r : CompletionAnswer). r .answer .count) (lists-p11 complete says))
+module _ (o : Operations) (meets : Demand2 o) where
+  -- Over an image no other answer to a query of whole labels meets it.
+  pub only-exact : (b q : List ℕ) → IsImage b → length q % 4 ≡ 0 → o .exact b q ≡ exactOf b q
+  only-exact b q (d, image) whole = meets b d q image whole .searched .exact ∙ sym (demand2 b d q image whole .searched .exact)
+
+  pub only-prefixes : (b q : List ℕ) → IsImage b → length q % 4 ≡ 0 → o .prefixes b q ≡ prefixesOf b q
+  only-prefixes b q (d, image) whole =
+      let (ms, are) = demand2 b d q image whole .searched .some-prefixes in
+      meets b d q image whole .searched .prefixes ms are ∙ sym (demand2 b d q image whole .searched .prefixes ms are)
+
+  pub only-longest : (b q : List ℕ) → IsImage b → length q % 4 ≡ 0 → o .longest b q ≡ longestOf b q
+  only-longest b q (d, image) whole =
+      let (n, is) = demand2 b d q image whole .searched .some-longest in
+      meets b d q image whole .searched .longest n is ∙ sym (demand2 b d q image whole .searched .longest n is)
+
+  pub only-value : (b q : List ℕ) → IsImage b → length q % 4 ≡ 0 → o .probe b q .value ≡ probeOf b q .value
+  only-value b q (d, image) whole = meets b d q image whole .searched .probe-value ∙ sym (demand2 b d q image whole .searched .probe-value)
+
+  pub only-longer : (b q : List ℕ) → IsImage b → length q % 4 ≡ 0 → o .probe b q .longer ≡ probeOf b q .longer
+  only-longer b q (d, image) whole =
+      let mine = meets b d q image whole .probe-longer in
+      let theirs = demand2 b d q image whole .probe-longer in
+      same-answers (o .probe b q .longer) (probeOf b q .longer) (λ e. theirs .1 (mine .0 e), λ e. mine .1 (theirs .0 e))
+
+  pub only-complete : (b q room : List ℕ) → IsImage b → length q % 4 ≡ 0 → 5 ≤ length room → o .complete b q room ≡ completionOf b q room
+  only-complete b q room (d, image) whole h =
+      let answered = demand2 b d q image whole in
+      let (ps, are) = answered .some-listing in
+      let (fit, front) = answered .some-front ps room h in
+      meets b d q image whole .completion ps fit room are h front ∙ sym (answered .completion ps fit room are h front)
+
+  -- A search with a constant answer fails, on P4 to P6: exact, prefixes, longest, and both parts of probe.
+  pub constant-exact-fails : ((q r : List ℕ) → o .exact p3 q .value ≡ o .exact p3 r .value) → ⊥
+  constant-exact-fails same = exact-differs (sym (value q6e refl) ∙ same q6e q61 ∙ value q61 refl)
+    where
+      value : (q : List ℕ) → length q % 4 ≡ 0 → o .exact p3 q .value ≡ exactOf p3 q .value
+      value q whole = ap (λ (a : ExactAnswer). a .value) (only-exact p3 q p3-is-image whole)
+
+  pub constant-prefixes-fail : ((q r : List ℕ) → o .prefixes p3 q .count ≡ o .prefixes p3 r .count) → ⊥
+  constant-prefixes-fail same = omega (arith, same q6e q61, count q6e refl, count q61 refl, prefixes-differ .0, prefixes-differ .1)
+    where
+      count : (q : List ℕ) → length q % 4 ≡ 0 → o .prefixes p3 q .count ≡ prefixesOf p3 q .count
+      count q whole = ap (λ (a : Prefixes). a .count) (only-prefixes p3 q p3-is-image whole)
+
+  pub constant-longest-fails : ((q r : List ℕ) → o .longest p3 q .part ≡ o .longest p3 r .part) → ⊥
+  constant-longest-fails same = omega (arith, ap length (same q6e q61), size q6e refl, size q61 refl, longest-differ .0, longest-differ .1)
+    where
+      size : (q : List ℕ) → length q % 4 ≡ 0 → length (o .longest p3 q .part) ≡ length (longestOf p3 q .part)
+      size q whole = ap (λ (a : LongestAnswer). length (a .part)) (only-longest p3 q p3-is-image whole)
+
+  pub constant-value-fails : ((q r : List ℕ) → o .probe p3 q .value ≡ o .probe p3 r .value) → ⊥
+  constant-value-fails same = probe-differs (sym (only-value p3 q6e p3-is-image refl) ∙ same q6e q61 ∙ only-value p3 q61 p3-is-image refl)
+
+  pub constant-longer-fails : ((q r : List ℕ) → o .probe p3 q .longer ≡ o .probe p3 r .longer) → ⊥
+  constant-longer-fails same =
+      true≢false (sym (longer-differs .0) ∙ sym (only-longer p3 q6e p3-is-image refl) ∙ same q6e q6e61 ∙ only-longer p3 q6e61 p3-is-image refl ∙ longer-differs .1)
+
+  -- A completion that writes nothing fails, on P11.
+  pub idle-completion-fails : ((room : List ℕ) → o .complete p11 [] room .room ≡ room) → ⊥
+  idle-completion-fails idle =
+      omega (arith, room-differs, ap (λ (r : List ℕ). getD r 0 0) (idle (blank 40)), ap (λ (a : CompletionAnswer). getD (a .room) 0 0) (only-complete p11 [] (blank 40) p11-is-image refl (omega arith)))
+
+  -- A made-up completion count fails: any number that is not that of the records written. So does the same number whatever the room.
+  pub made-up-completion-count-fails : (b : List ℕ) (d : PairSet) (q room : List ℕ) (ps fit : List Pair) → ImageOf b d → length q % 4 ≡ 0 → Lists b d (labelsOf q) ps
+      → 5 ≤ length room → FittingFront (length room) ps fit → o .complete b q room .answer .count ≢ length fit → ⊥
+  made-up-completion-count-fails b d q room ps fit image whole are h front other =
+      other (ap (λ (a : CompletionAnswer). a .answer .count) (meets b d q image whole .completion ps fit room are h front))
+
+  pub constant-completion-count-fails : (n : ℕ) → ((room : List ℕ) → o .complete p11 [] room .answer .count ≡ n) → ⊥
+  constant-completion-count-fails n same =
+      omega (arith, same (blank 40), same (blank 5), count (blank 40) (omega arith), count (blank 5) (omega arith), counts-differ .0, counts-differ .1)
+    where
+      count : (room : List ℕ) → 5 ≤ length room → o .complete p11 [] room .answer .count ≡ completionOf p11 [] room .answer .count
+      count room h = ap (λ (a : CompletionAnswer). a .answer .count) (only-complete p11 [] room p11-is-image refl h)
+
+-- ---- demand 2: the builder
+
+-- bytes that an image does not begin with
+blank-front : (m n : ℕ) → getD (take m (blank n)) 0 0 ≢ 0x4C
+blank-front zero n e = omega arith
+blank-front (suc m) zero e = omega arith
+blank-front (suc m) (suc n) e = omega arith
+
+module _ (o : Operations) (meets : Demand2Builder o) (keys work : List ℕ) where
+  abbrev writes : List ℕ → List ℕ
+  writes out = take (o .build keys work out .answer .length) (o .build keys work out .output)
+
+  -- A builder that refuses nothing and writes nothing fails read-back, whatever the keys: what it left in the output is no image.
+  pub idle-builder-fails : (n : ℕ) → o .build keys work (blank n) .answer .refusal ≡ 0 → o .build keys work (blank n) .output ≡ blank n → ⊥
+  unfolding magic
+  idle-builder-fails n e idle =
+      let begins = meets keys work (blank n) e .image-of .framed .magic-bytes 0 (omega arith) in
+      blank-front (o .build keys work (blank n) .answer .length) n (subst (λ (out : List ℕ). getD (take (o .build keys work (blank n) .answer .length) out) 0 0 ≡ 0x4C) idle begins)
+
+  -- One that places slot 1's children and no more fails, wherever a key has a label: no slot of what it writes has a parent but slot 1.
+  pub one-level-fails : (out k : List ℕ) (x v : ℕ) → List·Memᴰ (k ++ x ∷ [], v) (pairsOf keys) → o .build keys work out .answer .refusal ≡ 0
+      → ((s : ℕ) → 2 ≤ s → s < slotCount (writes out) → parent (writes out) s ≤ 1) → ⊥
+  one-level-fails out k x v m e low =
+      let back = meets keys work out e in
+      let placed = back .image-of .placed in
+      let key = k ++ x ∷ [] in
+      let has : Has (back .pair-set) key v = back .pair-set-is .each key v m in
+      let is-prefix : Prefix (back .pair-set) key = record { is = inr ([], v, subst (λ (l : List ℕ). Has (back .pair-set) l v) (sym (append-nil key)) has) } in
+      let end = placed .end-in key v has in
+      omega (arith, low (back .image-of .end key) (end .0) (end .1), placed .end-parent key v has, placed .slot-in k x is-prefix .0)
+
+-- A search for a base that passes over base 0 where that fits fails first fit.
+pub base-0-passed-over-fails : (S : ℕ) (w cs : List ℕ) (b : ℕ) → SmallestFit S w cs b → Fits S w cs 0 → 1 ≤ b → ⊥
+base-0-passed-over-fails S w cs b smallest fits h = omega (arith, h, smallest .smallest 0 fits)
+
+-- Codes by label alone fail, on P3's keys: 6E is in two of them, 61 in one.
+abbrev pairs3 : List Pair
+pairs3 = (0x6E ∷ [], 0) ∷ (0x6E ∷ 0x61 ∷ [], 1) ∷ []
+
+codes3 : mapOf pairs3 ≡ 0x6E ∷ 0x61 ∷ []
+unfolding computing
+codes3 = refl
+
+pub codes-by-label-fail : ByFrequency pairs3 (0x61 ∷ 0x6E ∷ []) → ⊥
+codes-by-label-fail by-label =
+    let same : (0x61 ∷ 0x6E ∷ []) ≡ mapOf pairs3 = codes-by-frequency .one-map pairs3 (0x61 ∷ 0x6E ∷ []) (mapOf pairs3) by-label (codes-by-frequency .listed pairs3) in
+    let heads : _≡_ {A = ℕ} 0x61 0x6E = ap (λ (l : List ℕ). getD l 0 0) (same ∙ codes3) in
+    omega (arith, heads)
+
+-- ---- the place of a fault: P7's is entry 2 of the children, in the list of slot 3, and no other
+fault7 : faultOf p7 ≡ Entry 3 2
+unfolding computing
+fault7 = refl
+
+pub only-fault-of-p7 : (f : Fault) → Right p7 f → f ≡ Entry 3 2
+only-fault-of-p7 f right = fault-right p7 .only f right ∙ fault7

@@ -1,15 +1,16 @@
 -- Readings of document 01 that none of its examples shows: the order of refusals, a stop for want of room, the limit, and walks over images
 -- that pass 1 to 8 alone.
-use Prim.Native.Nat.{ℕ}
+use Prim.Native.Nat.{ℕ, _+_, _-_, _*_}
 use mathlib.Core.Path.{refl}
-use mathlib.Core.List.{List, [], _∷_}
+use mathlib.Core.List.{List, [], _∷_, _++_}
 use mathlib.Core.Option.{some, none}
 use mathlib.Core.Bool.{false}
 use lib.ListN.{replicate, set}
 use Rattle.lxtr_spec.specs.Numbers.{beWords}
+use Rattle.lxtr_spec.specs.Labels.{lengthCount}
 use Rattle.lxtr_spec.specs.Builds.{imageBytes}
 use Rattle.lxtr_spec.specs.Samples.{nodes3, offsets3, children3, labels3, p3, p7, p9-labels, p9-longer, p11}
-use Rattle.lxtr_demands.specs.Rows.{Example, refused, exact, prefixes, longest, probe, query-refused, completion-refused, completion-stops, AllHold, _and_, computing}
+use Rattle.lxtr_demands.specs.Rows.{Example, refused, exact, prefixes, prefix-words, longest, probe, query-refused, completion-refused, completion-stops, AllHold, _and_, computing}
 
 -- slot 1 is its own child by code 1, and slot 0 its end: any number of labels 61 walks
 unfoldable pub own-child : List ℕ
@@ -29,6 +30,8 @@ readings =
     ∷ longest own-child (replicate 66 0x61) (replicate 64 0x61)
     ∷ prefixes own-child (replicate 2 0x61) (0 ∷ 1 ∷ 2 ∷ []) (5 ∷ 5 ∷ 5 ∷ [])
     ∷ probe own-child (replicate 64 0x61) (some 5) false 0x1_0000_0005 ∷ probe own-child (replicate 65 0x61) none false 0
+    -- the prefixes of P5 into more words than there are places: two for each place, and the rest stay
+    ∷ prefix-words p3 (0x6E ∷ 0x61 ∷ 0x6E ∷ []) (2 * lengthCount + 2) (1 ∷ 0 ∷ 2 ∷ 1 ∷ (replicate (2 * lengthCount - 4) 0 ++ 7 ∷ 7 ∷ [])) 2
     -- slot 0 not zero; then two faults at once: 9 and 10, 10 and 11, 11 and 12
     ∷ refused own-child 10
     ∷ refused (imageBytes (set nodes3 7 1) offsets3 children3 (set labels3 1 0x6E)) 9
@@ -49,7 +52,7 @@ readings-hold =
     (refl, refl, refl, refl, refl, refl, refl, refl) and (refl, refl, refl, refl, refl, refl, refl, refl)
     and (refl, refl) and (refl, refl) and (refl, refl) and (refl, refl) and (refl, refl)
     and (refl, refl)
-    and (refl, refl) and (refl, refl) and (refl, refl) and refl and (refl, refl) and (refl, refl)
+    and (refl, refl) and (refl, refl) and (refl, refl) and refl and (refl, refl) and (refl, refl) and refl
     and (refl, refl, refl) and (refl, refl, refl) and (refl, refl, refl) and (refl, refl, refl)
     and (refl, refl) and (refl, refl) and (refl, refl) and (refl, refl) and (refl, refl) and (refl, refl)
     and tt

@@ -15,27 +15,28 @@ use Rattle.lxtr_spec.specs.Refusals.{unlessRefused, endCount, checkOf}
 use Rattle.lxtr_spec.specs.Searches.{searchRefusal, exactValue, exactOf}
 use Rattle.lxtr_spec.specs.KeyLists.{keysAt, keyCount, pairsOf}
 use Rattle.lxtr_spec.specs.Placing.{baseAt, baseCount, isFree, fits, childCodes}
-use Rattle.lxtr_spec.specs.CodeMaps.{frequency, goesBefore, mapOf}
+use Rattle.lxtr_spec.specs.CodeMaps.{frequency, mapOf}
 use Rattle.lxtr_spec.specs.Builds.{buildOf}
 use Rattle.lxtr_spec.specs.Sets.{PairSet, Has, ImageOf}
-use Rattle.lxtr_spec.specs.Meaning.{Lists}
+use Rattle.lxtr_spec.specs.Meaning.{Ordered, Lists}
 use Rattle.lxtr_laws.specs.RangeTests.{tests}
 use Rattle.lxtr_laws.specs.Members.{member-at}
 use Rattle.lxtr_laws.specs.Lengths.{words-length}
 use Rattle.lxtr_laws.specs.KeyOrder.{before-self}
 use Rattle.lxtr_laws.specs.StepFacts.{none-not-some}
 use Rattle.lxtr_laws.specs.QueryLabels.{label-count, label-read}
-use Rattle.lxtr_laws.specs.Sorted.{Sorted, sorted-weaker, ordered-weaker}
+use Rattle.lxtr_laws.specs.Sorted.{Sorted, sorted-weaker, ordered-weaker, one-list}
 use Rattle.lxtr_build_laws.specs.KeyListFacts.{Ascending, KeysRight}
 use Rattle.lxtr_build_laws.specs.KeyReading.{keys-length}
 use Rattle.lxtr_build_laws.specs.Passing.{list-passed}
-use Rattle.lxtr_build_laws.specs.Maps.{before-is, map-members, map-ordered}
+use Rattle.lxtr_build_laws.specs.Maps.{Before, before-is, is-before, before-trans, before-apart, map-members, map-ordered}
 use Rattle.lxtr_build_laws.specs.FirstFit.{Smallest, first-fit-some, first-fit-none, fits-free}
 use Rattle.lxtr_build_laws.specs.Nodes.{Plain}
 use Rattle.lxtr_build_laws.specs.Trees.{placed-slot, placed-node}
 use Rattle.lxtr_build_laws.specs.PairSets.{setOf, set-members}
 use Rattle.lxtr_build_laws.specs.Outcomes.{image-built}
-use Rattle.lxtr_demands.specs.Builder.{ReadsBack, Demand2Builder, Fits, SmallestFit, MayBePlaced, FirstFit, FrequencyBefore, CodesByFrequency}
+use Rattle.lxtr_demands.specs.Operations.{defined}
+use Rattle.lxtr_demands.specs.Builder.{ReadsBack, Demand2Builder, Fits, SmallestFit, MayBePlaced, FirstFit, FrequencyBefore, ByFrequency, CodesByFrequency}
 use Rattle.lxtr_demands.specs.Laws.Images.{image-passes, known-image}
 use Rattle.lxtr_demands.specs.Laws.Counts.{pairs-counted, listing-counted}
 use Rattle.lxtr_demands.specs.Laws.Demand3.{demand3}
@@ -111,7 +112,7 @@ module _ (keys image : List ℕ) (right : KeysRight (pairsOf keys)) (image-of : 
     completion = λ rs room l h. demand3 image .completion d rs room image-of l h ∙ rw (listing-count rs l);
   }
 
-pub demand2-builder : Demand2Builder
+pub demand2-builder : Demand2Builder defined
 demand2-builder keys work out e =
     let b = image-built keys work out e in
     let right : KeysRight (pairsOf keys) = list-passed keys (b .right) .right in
@@ -155,12 +156,17 @@ first-fit = record {
       subst (SmallestFit S w (childCodes code g [])) (sym base) (smallest-fit S w (childCodes code g []) (n .base) (n .settled .small) (n .settled .smallest));
   found = λ S w cs b e. let r = first-fit-some S w cs b e in smallest-fit S w cs b (r .1) (r .0);
   none-fits = λ S w cs b e f. true≢false (sym (of-fits S w cs b f) ∙ first-fit-none S w cs e b (f .base-in));
+  one-fit = λ S w cs a b f g. omega (arith, f .smallest b (g .fits), g .smallest a (f .fits));
 }
 
 -- ---- the code map
 
 pub codes-by-frequency : CodesByFrequency
-codes-by-frequency ps = record {
-  used = map-members ps;
-  ordered = ordered-weaker (λ x y. goesBefore (frequency ps) x y ≡ true) (FrequencyBefore ps) (before-is (frequency ps)) (mapOf ps) (map-ordered ps);
+codes-by-frequency = record {
+  listed = λ ps. record { used = map-members ps; ordered = ordered-weaker (Before (frequency ps)) (FrequencyBefore ps) (before-is (frequency ps)) (mapOf ps) (map-ordered ps) };
+  one-map = λ ps xs ys l m. one-list (Before (frequency ps)) (before-trans (frequency ps)) (λ x b. before-apart (frequency ps) x x b refl)
+      xs ys (rank-ordered ps xs l) (rank-ordered ps ys m) (λ x i. m .used x .1 (l .used x .0 i)) (λ x i. l .used x .1 (m .used x .0 i));
 }
+  where
+    rank-ordered : (ps : List Pair) (labels : List ℕ) → ByFrequency ps labels → Ordered (Before (frequency ps)) labels
+    rank-ordered ps labels l = ordered-weaker (FrequencyBefore ps) (Before (frequency ps)) (is-before (frequency ps)) labels (l .ordered)

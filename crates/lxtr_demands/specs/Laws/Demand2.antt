@@ -10,6 +10,7 @@ use Rattle.lxtr_spec.specs.Refusals.{unlessRefused}
 use Rattle.lxtr_spec.specs.Searches.{exactValue, probeOf}
 use Rattle.lxtr_spec.specs.Completions.{pairsBelow, fitting}
 use Rattle.lxtr_spec.specs.Sets.{PairSet}
+use Rattle.lxtr_demands.specs.Operations.{defined}
 use Rattle.lxtr_demands.specs.Demand2.{Searched, Demand2}
 use Rattle.lxtr_demands.specs.Laws.Kinds.{KnownImage}
 use Rattle.lxtr_demands.specs.Laws.Images.{known-image}
@@ -25,13 +26,13 @@ pub exact-set : {b : List ℕ} {d : PairSet} → KnownImage b d → exactValue b
 unfolding exactValue
 exact-set known = fun-ext (λ xs. value-led known xs (leads known xs))
 
-pub demand2 : Demand2
+pub demand2 : Demand2 defined
 unfolding probeOf unlessRefused
 demand2 b d q image whole =
     let passes = search-passes image q whole in
     let known = known-image image in
     record {
-      searched = subst (λ e. Searched b e q (labelsOf q)) (exact-set known) (searches-agree b q passes);
+      searched = subst (λ e. Searched defined b e q (labelsOf q)) (exact-set known) (searches-agree b q passes);
       probe-longer = rw passes (probe-longer known (labelsOf q) (leads known (labelsOf q)));
       one-listing = one-listing b d (labelsOf q);
       some-listing = (pairsBelow b (labelsOf q), pairs-listed known (labelsOf q));

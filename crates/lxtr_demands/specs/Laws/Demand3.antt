@@ -11,6 +11,7 @@ use Rattle.lxtr_spec.specs.Labels.{labelsOf, labelsFrom}
 use Rattle.lxtr_spec.specs.Refusals.{unlessRefused, checkOf}
 use Rattle.lxtr_spec.specs.Walks.{valueOf}
 use Rattle.lxtr_spec.specs.Completions.{pairsBelow}
+use Rattle.lxtr_demands.specs.Operations.{defined}
 use Rattle.lxtr_demands.specs.Demand3.{Demand3}
 use Rattle.lxtr_demands.specs.Laws.Images.{image-passes, image-set, known-image, passed-image}
 use Rattle.lxtr_demands.specs.Laws.CodeOrder.{one-listing}
@@ -19,7 +20,7 @@ use Rattle.lxtr_laws.specs.Lengths.{room-from}
 use Rattle.lxtr_demands.specs.Laws.Rooms.{whole-front}
 use Rattle.lxtr_demands.specs.Laws.Completions.{pairs-listed, completes}
 
-pub demand3 : (b : List ℕ) → Demand3 b
+pub demand3 : (b : List ℕ) → Demand3 defined b
 unfolding checkOf unlessRefused labelsOf labelsFrom
 demand3 b = record {
   passes = (λ e. (valueOf b, passed-image b e), λ i. image-passes (i .1));

@@ -1,0 +1,26 @@
+-- A program as the demands see it: what each operation answers, and what lent memory holds afterwards, for all that can be passed.
+-- A demand speaks of any such program. `defined` is the one of the definitions, with which the contracts equate what the code answers.
+use Prim.Native.Nat.{ℕ}
+use mathlib.Core.List.{List}
+use Rattle.lxtr_spec.specs.Refusals.{checkOf}
+use Rattle.lxtr_spec.specs.Searches.{ExactAnswer, LongestAnswer, ProbeAnswer, exactOf, prefixesOf, longestOf, probeOf}
+use Rattle.lxtr_spec.specs.Completions.{CompletionAnswer, completionOf}
+use Rattle.lxtr_spec.specs.Builds.{BuildAnswer, buildOf}
+use Rattle.lxtr_spec.specs.declared.Verdict.{Verdict}
+use Rattle.lxtr_spec.specs.declared.Prefixes.{Prefixes}
+
+pub record Operations : Type 0 where
+  -- of an image
+  pub check : List ℕ → Verdict
+  -- of image and query
+  pub exact : List ℕ → List ℕ → ExactAnswer
+  pub prefixes : List ℕ → List ℕ → Prefixes
+  pub longest : List ℕ → List ℕ → LongestAnswer
+  pub probe : List ℕ → List ℕ → ProbeAnswer
+  -- of image, prefix and lent room
+  pub complete : List ℕ → List ℕ → List ℕ → CompletionAnswer
+  -- of key list, lent work and lent output
+  pub build : List ℕ → List ℕ → List ℕ → BuildAnswer
+
+abbrev pub defined : Operations
+defined = record { check = checkOf; exact = exactOf; prefixes = prefixesOf; longest = longestOf; probe = probeOf; complete = completionOf; build = buildOf }
