@@ -11,7 +11,7 @@ use lib.ListN.{length, take, getD, replicate}
 use Rattle.lxtr_spec.specs.Labels.{labelsOf, Pair}
 use Rattle.lxtr_spec.specs.Image.{magic, slotCount, parent}
 use Rattle.lxtr_spec.specs.Refusals.{usedCount, checkOf}
-use Rattle.lxtr_spec.specs.Searches.{ExactAnswer, LongestAnswer, exactOf, prefixesOf, longestOf, probeOf}
+use Rattle.lxtr_spec.specs.Searches.{ExactAnswer, LongestAnswer, ProbeAnswer, exactOf, prefixesOf, longestOf, probeOf}
 use Rattle.lxtr_spec.specs.Completions.{CompletionAnswer, completionOf}
 use Rattle.lxtr_spec.specs.KeyLists.{pairsOf}
 use Rattle.lxtr_spec.specs.CodeMaps.{mapOf}
@@ -178,6 +178,12 @@ same-answers true false i = sym (i .0 refl)
 same-answers false true i = i .1 refl
 same-answers false false i = refl
 
+same-probes : (a b : ProbeAnswer) → a .refusal ≡ b .refusal → a .value ≡ b .value → a .longer ≡ b .longer → a ≡ b
+same-probes a b k v l =
+    subst (λ (n : ℕ). a ≡ record { refusal = n; value = b .value; longer = b .longer }) k
+    (subst (λ (m : Option ℕ). a ≡ record { refusal = a .refusal; value = m; longer = b .longer }) v
+    (subst (λ (n : Bool). a ≡ record { refusal = a .refusal; value = a .value; longer = n }) l refl))
+
 module _ (o : Operations) (meets : Demand2 o) where
   -- Over an image no other answer to a query of whole labels meets it.
   pub only-exact : (b q : List ℕ) → IsImage b → length q % 4 ≡ 0 → o .exact b q ≡ exactOf b q
@@ -193,14 +199,14 @@ module _ (o : Operations) (meets : Demand2 o) where
       let (n, is) = demand2 b d q image whole .searched .some-longest in
       meets b d q image whole .searched .longest n is ∙ sym (demand2 b d q image whole .searched .longest n is)
 
-  pub only-value : (b q : List ℕ) → IsImage b → length q % 4 ≡ 0 → o .probe b q .value ≡ probeOf b q .value
-  only-value b q (d, image) whole = meets b d q image whole .searched .probe-value ∙ sym (demand2 b d q image whole .searched .probe-value)
-
-  pub only-longer : (b q : List ℕ) → IsImage b → length q % 4 ≡ 0 → o .probe b q .longer ≡ probeOf b q .longer
-  only-longer b q (d, image) whole =
-      let mine = meets b d q image whole .probe-longer in
-      let theirs = demand2 b d q image whole .probe-longer in
-      same-answers (o .probe b q .longer) (probeOf b q .longer) (λ e. theirs .1 (mine .0 e), λ e. mine .1 (theirs .0 e))
+  pub only-probe : (b q : List ℕ) → IsImage b → length q % 4 ≡ 0 → o .probe b q ≡ probeOf b q
+  only-probe b q (d, image) whole =
+      let mine = meets b d q image whole in
+      let theirs = demand2 b d q image whole in
+      let refusal : o .probe b q .refusal ≡ probeOf b q .refusal = mine .searched .probe-refusal ∙ sym (theirs .searched .probe-refusal) in
+      let value : o .probe b q .value ≡ probeOf b q .value = mine .searched .probe-value ∙ sym (theirs .searched .probe-value) in
+      let longer = same-answers (o .probe b q .longer) (probeOf b q .longer) (λ e. theirs .probe-longer .1 (mine .probe-longer .0 e), λ e. mine .probe-longer .1 (theirs .probe-longer .0 e)) in
+      same-probes (o .probe b q) (probeOf b q) refusal value longer
 
   pub only-complete : (b q room : List ℕ) → IsImage b → length q % 4 ≡ 0 → 5 ≤ length room → o .complete b q room ≡ completionOf b q room
   only-complete b q room (d, image) whole h =
@@ -228,12 +234,21 @@ module _ (o : Operations) (meets : Demand2 o) where
       size : (q : List ℕ) → length q % 4 ≡ 0 → length (o .longest p3 q .part) ≡ length (longestOf p3 q .part)
       size q whole = ap (λ (a : LongestAnswer). length (a .part)) (only-longest p3 q p3-is-image whole)
 
+  probes : (q : List ℕ) → length q % 4 ≡ 0 → o .probe p3 q ≡ probeOf p3 q
+  probes q whole = only-probe p3 q p3-is-image whole
+
   pub constant-value-fails : ((q r : List ℕ) → o .probe p3 q .value ≡ o .probe p3 r .value) → ⊥
-  constant-value-fails same = probe-differs (sym (only-value p3 q6e p3-is-image refl) ∙ same q6e q61 ∙ only-value p3 q61 p3-is-image refl)
+  constant-value-fails same =
+      probe-differs (sym (value q6e refl) ∙ same q6e q61 ∙ value q61 refl)
+    where
+      value : (q : List ℕ) → length q % 4 ≡ 0 → o .probe p3 q .value ≡ probeOf p3 q .value
+      value q whole = ap (λ (a : ProbeAnswer). a .value) (probes q whole)
 
   pub constant-longer-fails : ((q r : List ℕ) → o .probe p3 q .longer ≡ o .probe p3 r .longer) → ⊥
-  constant-longer-fails same =
-      true≢false (sym (longer-differs .0) ∙ sym (only-longer p3 q6e p3-is-image refl) ∙ same q6e q6e61 ∙ only-longer p3 q6e61 p3-is-image refl ∙ longer-differs .1)
+  constant-longer-fails same = true≢false (sym (longer-differs .0) ∙ sym (longer q6e refl) ∙ same q6e q6e61 ∙ longer q6e61 refl ∙ longer-differs .1)
+    where
+      longer : (q : List ℕ) → length q % 4 ≡ 0 → o .probe p3 q .longer ≡ probeOf p3 q .longer
+      longer q whole = ap (λ (a : ProbeAnswer). a .longer) (probes q whole)
 
   -- A completion that writes nothing fails, on P11.
   pub idle-completion-fails : ((room : List ℕ) → o .complete p11 [] room .room ≡ room) → ⊥
