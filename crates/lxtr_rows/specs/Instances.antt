@@ -39,14 +39,6 @@ use Rattle.lxtr_demands.specs.Laws.RightPlaces.{fault-right}
 abbrev pub IsImage : List ℕ → Type 0
 IsImage b = (d : PairSet) × ImageOf b d
 
-pub p1-is-image : IsImage p1
-unfolding computing
-p1-is-image = demand3 p1 .passes .0 refl
-
-pub p2-is-image : IsImage p2
-unfolding computing
-p2-is-image = demand3 p2 .passes .0 refl
-
 pub p3-is-image : IsImage p3
 unfolding computing
 p3-is-image = demand3 p3 .passes .0 refl
@@ -55,33 +47,27 @@ pub p11-is-image : IsImage p11
 unfolding computing
 p11-is-image = demand3 p11 .passes .0 refl
 
+pub more-images : IsImage p1 × IsImage p2
+unfolding computing
+more-images = (demand3 p1 .passes .0 refl, demand3 p2 .passes .0 refl)
+
 -- bytes that the check refuses are an image of no set
 refused-is-none : (b : List ℕ) (k : ℕ) → checkOf b .refusal ≡ k → 1 ≤ k → IsImage b → ⊥
 refused-is-none b k e h image = omega (arith, e, demand3 b .passes .1 image)
 
-pub p7-is-none : IsImage p7 → ⊥
-unfolding computing
-p7-is-none = refused-is-none p7 11 refl (omega arith)
-
-pub p8-check-is-none : IsImage p8-check → ⊥
-unfolding computing
-p8-check-is-none = refused-is-none p8-check 10 refl (omega arith)
-
-pub p8-slot-is-none : IsImage p8-slot → ⊥
-unfolding computing
-p8-slot-is-none = refused-is-none p8-slot 10 refl (omega arith)
-
-pub p9-labels-is-none : IsImage p9-labels → ⊥
-unfolding computing
-p9-labels-is-none = refused-is-none p9-labels 9 refl (omega arith)
-
-pub p9-longer-is-none : IsImage p9-longer → ⊥
-unfolding computing
-p9-longer-is-none = refused-is-none p9-longer 6 refl (omega arith)
-
 pub p10-is-none : IsImage p10 → ⊥
 unfolding computing
 p10-is-none = refused-is-none p10 12 refl (omega arith)
+
+pub more-are-none : (IsImage p7 → ⊥) × (IsImage p8-check → ⊥) × (IsImage p8-slot → ⊥) × (IsImage p9-labels → ⊥) × (IsImage p9-longer → ⊥)
+unfolding computing
+more-are-none = (
+  refused-is-none p7 11 refl (omega arith),
+  refused-is-none p8-check 10 refl (omega arith),
+  refused-is-none p8-slot 10 refl (omega arith),
+  refused-is-none p9-labels 9 refl (omega arith),
+  refused-is-none p9-longer 6 refl (omega arith),
+)
 
 -- ---- demand 3
 
