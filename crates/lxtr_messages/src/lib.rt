@@ -91,7 +91,7 @@ pub fn tell(sentence: u8, first: u32, second: u32) {
               value %\n|\
               value none\n|\
               no key has more than % labels\n|\
-              it is not found; but the check refuses the image\n|\
+              it is not found, but the check refuses the image\n|\
               it is no key, but longer keys begin with it\n|\
               no key begins with it\n|\
               longer keys\n|\
@@ -105,9 +105,9 @@ pub fn tell(sentence: u8, first: u32, second: u32) {
               the key list would have more than % bytes\n|\
               the word has more than 4096 bytes\n|\
               the word is not UTF-8\n|\
-              there is no such command; lxtr help lists them\n|\
-              the command takes other operands; lxtr help lists them\n|\
-              the file has more than % bytes, the most that an image has\n|",
+              there is no such command; lxtr help lists the commands\n|\
+              the command takes a different number of operands; see lxtr help\n|\
+              the file has more than % bytes, the size of the largest image\n|",
             sentence,
         ),
         first,
