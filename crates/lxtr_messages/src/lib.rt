@@ -1,5 +1,5 @@
-// What the inspector's command says: every sentence by its place in a text. No contract can say what is written; how the marks of a
-// sentence are filled is proved in `lxtr_text`.
+// The sentences of the inspector's command, each given by its place in a text. No contract says which sentence is printed; how the marks
+// of a sentence are filled is proved in `lxtr_text`.
 mod refusals; // the sentence of each refusal, and of each place at fault
 
 use lxtr_output::print;
