@@ -1,7 +1,7 @@
 /*
- * entries: calls each function of lxtr.h on a dictionary of two words, n (value 0) and na (value 1), and then on its image with
- * one child changed in the children lists: every lookup still succeeds, and only the check, which can tell the place, and
- * completions see the fault.
+ * entries: calls each function of lxtr.h on a dictionary of two words, n (value 0) and na (value 1), and then on the same image
+ * with one child changed in the children lists. Every lookup still succeeds. Only lxtr_check, lxtr_fault and lxtr_complete notice
+ * the fault.
  *
  *     entries
  */
@@ -14,10 +14,10 @@
 static const uint8_t keys[] = { 1, 0, 0, 0, 2, 1, 0, 0, 0, 'n', 2, 0, 0, 0, 'n', 0, 0, 0, 'a' };
 static const uint8_t text[] = { 0, 0, 0, 'n', 0, 0, 0, 'a', 0, 0, 0, 'n' };
 
-/* Bytes of the front parts n and na of the text. */
+/* The lengths in bytes of the front parts n and na of the text. */
 enum { N = 4, NA = 8 };
 
-/* 7 slots, 4 children and a code map of 13 bytes. Child 2 lies behind 24 bytes, 8 for each slot, 8 offsets and two children. */
+/* 7 slots, 4 children, a code map of 13 bytes. Before child 2 are 24 bytes of header, 7 slots, 8 offsets and two children. */
 enum { IMAGE_BYTES = 141, CHILD_2 = 24 + 8 * 7 + 4 * 8 + 4 * 2 };
 
 static void show(const char *what, uint64_t answer)

@@ -9,8 +9,8 @@
 #include <stdio.h>
 
 /*
- * Reads the file into room, as far as it goes, and returns how many bytes these are; -1 on error. Room of one byte more than the
- * longest file that is right shows a longer one.
+ * Reads as much of the file as the room holds, and returns the number of bytes read, or -1 on error. If the room is one byte
+ * longer than the longest valid file, the caller can tell that a file is too long.
  */
 static inline long read_file(const char *name, uint8_t *room, size_t room_length)
 {
@@ -23,7 +23,7 @@ static inline long read_file(const char *name, uint8_t *room, size_t room_length
 	return read;
 }
 
-/* Writes the bytes to the file. Returns 0, or -1 on error; the file may then hold a part of them. */
+/* Writes the bytes to the file. Returns 0, or -1 on error; the file may then hold only some of them. */
 static inline int write_file(const char *name, const uint8_t *bytes, size_t length)
 {
 	FILE *file = fopen(name, "wb");

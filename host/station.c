@@ -12,7 +12,7 @@
 #include "files.h"
 #include "lxtr.h"
 
-/* 32,768 keys of 64 labels are the longest key list; one byte more lets a longer file be refused. */
+/* The longest key list has 32,768 keys of 64 labels. With room for one byte more, a longer file is refused. */
 static uint8_t keys[5 + LXTR_MAX_KEYS * (1 + 4 * LXTR_MAX_LABELS) + 1];
 static uint32_t work[LXTR_MAX_WORK_WORDS];
 static uint8_t image[LXTR_MAX_IMAGE_BYTES];

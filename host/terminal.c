@@ -11,7 +11,7 @@
 #include "lxtr.h"
 #include "utf8.h"
 
-/* One byte more than the largest image: a longer file then has a wrong length, and is refused. */
+/* One byte more than the largest image: a longer file then has a wrong length and is refused. */
 static uint8_t image[LXTR_MAX_IMAGE_BYTES + 1];
 static uint8_t room[65536];
 
@@ -21,7 +21,7 @@ static int refused(const char *what, uint64_t answer)
 	return 1;
 }
 
-/* What the probe says of the labels typed so far. */
+/* Shows what the probe says about the labels typed so far. */
 static void show_probe(const char *text, size_t length, uint64_t answer)
 {
 	printf("%.*s: ", (int)length, text);
@@ -32,7 +32,7 @@ static void show_probe(const char *text, size_t length, uint64_t answer)
 	printf("%s\n", lxtr_more(answer) ? "longer keys" : "no longer keys");
 }
 
-/* The records behind the room's first five bytes. */
+/* Shows the records that follow the first five bytes of the room. */
 static void show_records(uint32_t count)
 {
 	const uint8_t *at = room + 5;
@@ -62,7 +62,7 @@ int main(int argc, char **argv)
 		return refused("image", checked);
 	printf("image: %" PRIu32 " keys\n", lxtr_number(checked));
 
-	/* A query beyond the longest key matches nothing, so one label more than that is enough. */
+	/* A query longer than the longest key matches nothing, so room for one label more is enough. */
 	uint8_t query[4 * (LXTR_MAX_LABELS + 1)];
 	size_t query_length = 0;
 	const char *end = argv[2];

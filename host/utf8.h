@@ -1,5 +1,5 @@
 /*
- * utf8.h: text as labels and back, for the host programs. A query holds four bytes a label, the highest first.
+ * utf8.h: from text to labels and back, for the host programs. A query has four bytes for each label, the highest byte first.
  */
 #ifndef UTF8_H
 #define UTF8_H
@@ -21,7 +21,7 @@ static inline uint32_t label_at(const uint8_t *at)
 	return (uint32_t)at[0] << 24 | (uint32_t)at[1] << 16 | (uint32_t)at[2] << 8 | at[3];
 }
 
-/* Reads one character of well-formed UTF-8 into *label. Returns its length in bytes, or 0 where it is not well formed. */
+/* Reads one UTF-8 character into *label. Returns its length in bytes, or 0 if it is not well formed. */
 static inline size_t read_character(const char *text, uint32_t *label)
 {
 	static const uint32_t least[] = { 0, 0, 0x80, 0x800, 0x10000 };

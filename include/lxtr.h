@@ -2,56 +2,56 @@
  * lxtr.h: LXTR images, version 3, for programs in C (C99 or later) and C++.
  *
  * An LXTR image is one block of bytes that holds a dictionary: a set of keys, each with a value number. It is a double-array
- * trie, made by lxtr_build and read in place by the other functions. Link with liblxtr_c.a, which is for x86-64 Linux and needs
- * only memcpy and memset.
+ * trie. lxtr_build makes it, and the other functions read it in place. Link with liblxtr_c.a, which is for x86-64 Linux and
+ * needs only memcpy and memset.
  *
- * WORDS USED HERE
+ * TERMS
  *
  * label      a Unicode scalar value: 0 to 0x10FFFF without 0xD800 to 0xDFFF. Keys of bytes use the labels 0 to 255.
  * key        0 to 64 labels. The empty key is a key.
- * value      a number below 2^31 that belongs to a key. lxtr_build numbers the keys from 0 in the order of their list; an image
- *            from elsewhere may have other values.
+ * value      a number below 2^31 that belongs to a key. lxtr_build numbers the keys from 0 in the order of the key list; an
+ *            image from another builder may have other values.
  * query      labels as bytes, four to a label, the highest byte first: U+306A is 00 00 30 6A. Its length counts bytes. A number
- *            that is no label of the image matches nothing.
- * code       an image lists the labels of its keys; the code of a label is its place in that list, from 1 on. lxtr_build
- *            lists the labels that stand in most keys first (a key counts once, however often the label stands in it), and of
- *            two that stand in equally many keys the smaller label.
- * code order compares keys label by label by the codes, a key before its longer keys. It is not the order of a dictionary.
+ *            that the image does not list as a label matches nothing.
+ * code       an image lists the labels of its keys; the code of a label is its place in that list, counted from 1. lxtr_build
+ *            sorts the labels by the number of keys that contain them, highest first, and equal ones by their own number,
+ *            smallest first. A key counts once, however often it contains the label.
+ * code order compares keys label by label, by the codes; a key comes before its longer keys. It is not dictionary order.
  *
- * WHAT EVERY FUNCTION KEEPS TO
+ * GUARANTEES OF EVERY FUNCTION
  *
- * - It takes any bytes: a damaged image, a query that is cut, a list of no keys, no room. It never reads or writes outside of
- *   the memory that it is passed, it always returns, and what it answers is fixed for every input.
+ * - It takes any bytes: a damaged image, a query that is cut short, an empty key list, no room. It never reads or writes outside
+ *   the memory that it is passed. It always returns. The same input always gives the same answer.
  * - Memory is passed as a pointer and a length: bytes for uint8_t, words for uint32_t. A pointer may be null if its length is 0.
  *   Bytes need no alignment.
- * - Lent memory is what a function writes: places, room, work, out. It must not overlap anything else that the same call is
- *   passed. Memory that is only read may overlap.
- * - It keeps nothing after it returns, allocates nothing and has no state of its own, so any number of threads may call it.
- * - Stack, as measured on x86-64: at most about 490 KB for lxtr_build, 33 KB for lxtr_fault, 17 KB for lxtr_check and
+ * - Lent memory is memory that a function writes: places, room, work, out. It must not overlap anything else that is passed in
+ *   the same call. Memory that is only read may overlap.
+ * - It keeps no pointer after it returns, allocates nothing and has no state of its own, so any number of threads may call it.
+ * - Stack, measured on x86-64: at most about 490 KB for lxtr_build, 33 KB for lxtr_fault, 17 KB for lxtr_check and
  *   lxtr_complete, 1 KB for the others.
  *
- * WHAT A NUMBER MEANS
+ * WHAT AN ANSWER MEANS
  *
  * Each function answers one number:
  *
  *     refusal * 2^40  +  2^33 if there is more  +  2^32 if there is a value  +  a value, a count or a length
  *
  * Take it apart with lxtr_refusal, lxtr_more, lxtr_has_value and lxtr_number below. A part that a function does not use is 0.
- * If the refusal is 0, nothing was refused. If not, it is a number of enum lxtr_reason, all other parts are 0, and lent memory
- * is as it was (but lxtr_build clears its work: see there). If several reasons hold, the answer is the first of them in the order
- * that the function gives. lxtr_fault alone tells more beside a refusal.
+ * If the refusal is 0, nothing was refused. If not, it is a value of enum lxtr_reason, all other parts are 0, and lent memory
+ * is unchanged (but lxtr_build clears its work: see there). If several reasons hold, the answer is the first of them, in the
+ * order given at the function. Only lxtr_fault answers more beside a refusal.
  *
- * LAYOUT, for reading a refusal; programs need not know it
+ * LAYOUT OF AN IMAGE; only needed to understand a refusal
  *
- * 24 bytes: "LXTR", a version byte 3, three zeros, N, E and M in four bytes each, four zeros. N slots of two words, base and
- * check. N + 1 offsets. E children. M bytes of code map: a version byte 1, the number L of labels in four bytes, L labels of four
- * bytes. Numbers have their lowest byte first, in the code map their highest.
+ * Header, 24 bytes: "LXTR", a version byte 3, three zeros, N, E and M in four bytes each, four zeros. Then N slots of two words,
+ * base and check; N + 1 offsets; E children; M bytes of code map. The code map is a version byte 1, the number L of labels in
+ * four bytes, and L labels of four bytes each. Numbers have their lowest byte first, but in the code map their highest.
  *
  * Slot 1 stands for the empty front part of the keys, every other used slot for a longer front part or for the end of a key. The
- * check word of a slot holds its parent, the slot one step shorter, and in its top bit whether a key ends there. The base word
- * holds a number that, XOR a label's code, gives the child's slot, and XOR 0 the end's; that of an end holds the value, with the
- * top bit set. A slot from 2 up whose parent is 0 is unused. The children of slot p are those from offset p up to offset p + 1,
- * by ascending code.
+ * check word of a slot holds its parent, the slot one step shorter; the top bit of check says whether a key ends there. The base
+ * word holds a number: base XOR a label's code is the child's slot, and base XOR 0 is the slot of the end. The base word of an
+ * end holds the value, with the top bit set. A slot from 2 up whose parent is 0 is unused. The children of slot p are those from
+ * offset p up to offset p + 1, by ascending code.
  */
 #ifndef LXTR_H
 #define LXTR_H
@@ -63,68 +63,71 @@
 extern "C" {
 #endif
 
-/* The most labels of a key, keys of a list (32,767 is the most that can fit an image), and labels that an image lists. */
+/*
+ * The largest number of labels in a key, of keys in a key list (no more than 32,767 can fit in an image), and of labels that an
+ * image lists.
+ */
 #define LXTR_MAX_LABELS 64
 #define LXTR_MAX_KEYS 32768
 #define LXTR_MAX_LISTED_LABELS 4095
 
-/* The words that lxtr_prefixes writes: a length and a value for each length from 0 to 64. */
+/* The number of words that lxtr_prefixes writes: a length and a value for each possible length from 0 to 64. */
 #define LXTR_PREFIX_WORDS (2 * (LXTR_MAX_LABELS + 1))
 
-/* The least room of lxtr_complete, the least work of lxtr_build, and the work with which it has all 65,536 slots. */
+/* The least room for lxtr_complete, the least work for lxtr_build, and the work that allows all 65,536 slots. */
 #define LXTR_MIN_ROOM_BYTES 5
 #define LXTR_MIN_WORK_WORDS 4
 #define LXTR_MAX_WORK_WORDS 131072
 
-/* The largest image that there is. */
+/* The size of the largest image. */
 #define LXTR_MAX_IMAGE_BYTES 1064981
 
 /* Why something is refused. N, E, M and L are those of the layout above. */
 enum lxtr_reason {
 	LXTR_NOT_REFUSED = 0,
 
-	/* of any image, by every function that takes one, in this order */
+	/* of an image, by every function that takes one, in this order */
 	LXTR_IMAGE_TOO_SHORT = 1,      /* fewer than 24 bytes */
 	LXTR_NOT_LXTR = 2,             /* the first four bytes are not "LXTR" */
 	LXTR_WRONG_VERSION = 3,        /* the version is not 3 */
 	LXTR_RESERVED_SET = 4,         /* one of the header's seven zeros is not 0 */
 	LXTR_WRONG_SIZES = 5,          /* N is outside 2 to 65,536, or E is above N - 2 */
-	LXTR_WRONG_IMAGE_LENGTH = 6,   /* the image has not 24 + 8 N + 4 (N + 1) + 4 E + M bytes */
-	LXTR_WRONG_MAP = 7,            /* M is below 5, the map's version is not 1, L is above 4,095, or M is not 5 + 4 L */
+	LXTR_WRONG_IMAGE_LENGTH = 6,   /* the image is not exactly 24 + 8 N + 4 (N + 1) + 4 E + M bytes long */
+	LXTR_WRONG_MAP = 7,            /* M is below 5, the version of the code map is not 1, L is above 4,095, or M is not 5 + 4 L */
 	LXTR_WRONG_OFFSET_ENDS = 8,    /* the first offset is not 0, or the last is not E */
 
-	/* of an image, by lxtr_check and lxtr_complete, in this order */
-	LXTR_WRONG_LABELS = 9,         /* a listed label is no scalar value, or is listed twice */
-	LXTR_WRONG_SLOTS = 10,         /* a slot contradicts its parent, its end, or that it is unused; every search reads slots */
-	LXTR_WRONG_LISTS = 11,         /* a children list contradicts the slots; completions read the lists, lxtr_probe their lengths */
-	LXTR_UNREACHABLE = 12,         /* a used slot does not reach slot 1 by 65 or fewer steps to the parent */
+	/* of an image, by lxtr_check, lxtr_fault and lxtr_complete, in this order */
+	LXTR_WRONG_LABELS = 9,         /* a listed label is not a scalar value, or is listed twice */
+	LXTR_WRONG_SLOTS = 10,         /* a slot does not fit its parent or its end, or is unused and not zero; all searches read slots */
+	LXTR_WRONG_LISTS = 11,         /* a children list does not fit the slots; lxtr_complete reads lists, lxtr_probe their lengths */
+	LXTR_UNREACHABLE = 12,         /* a used slot does not reach slot 1 in 65 or fewer steps to the parent */
 
 	/* of a query, and of the room of lxtr_complete */
-	LXTR_WRONG_QUERY_LENGTH = 13,  /* the query's length is no multiple of four */
+	LXTR_WRONG_QUERY_LENGTH = 13,  /* the length of the query is not a multiple of four */
 	LXTR_ROOM_TOO_SMALL = 14,      /* the room has fewer than 5 bytes */
 
 	/* of lxtr_build */
 	LXTR_LIST_MALFORMED = 15,      /* the key list is cut short, has bytes left over, or its version is not 1 */
-	LXTR_TOO_MANY_KEYS = 16,       /* the list says that it has more than 32,768 keys */
-	LXTR_KEY_TOO_LONG = 17,        /* a key of more than 64 labels */
-	LXTR_NOT_SCALAR = 18,          /* a label that is no Unicode scalar value */
-	LXTR_KEYS_NOT_ASCENDING = 19,  /* a key that is not above the key before it */
+	LXTR_TOO_MANY_KEYS = 16,       /* the key list says that it has more than 32,768 keys */
+	LXTR_KEY_TOO_LONG = 17,        /* a key has more than 64 labels */
+	LXTR_NOT_SCALAR = 18,          /* a label is not a Unicode scalar value */
+	LXTR_KEYS_NOT_ASCENDING = 19,  /* a key is not above the key before it */
 	LXTR_TOO_MANY_LABELS = 20,     /* more than 4,095 different labels */
 	LXTR_WORK_TOO_SMALL = 21,      /* fewer than 4 words of work */
-	LXTR_TOO_FEW_SLOTS = 22,       /* no place for some slot: lend more work; with LXTR_MAX_WORK_WORDS, this list cannot be built */
+	LXTR_TOO_FEW_SLOTS = 22,       /* some slot has no place: lend more work; with LXTR_MAX_WORK_WORDS this list cannot be built */
 	LXTR_OUT_TOO_SMALL = 23        /* the image is longer than out */
 };
 
-/* Which part of rule 11, LXTR_WRONG_LISTS, is broken: the kind of fault that lxtr_fault tells. */
+/* The kinds of fault of refusal 11, LXTR_WRONG_LISTS, that lxtr_fault tells apart. */
 enum lxtr_list_fault {
 	LXTR_OFFSET_FALLS = 1,         /* the list of this slot ends before it begins */
-	LXTR_WRONG_ENTRY = 2,          /* this child is no child of the slot whose list has it, or its code is not above the one before */
+	LXTR_WRONG_ENTRY = 2,          /* this entry is no child of the slot whose list it is in, or its code does not rise */
 	LXTR_UNLISTED_SLOT = 3,        /* this used slot is in no list */
-	LXTR_CHILDLESS_SLOT = 4,       /* this used slot is no end of a key, and has no child */
+	LXTR_CHILDLESS_SLOT = 4,       /* this used slot is not the end of a key, and has no child */
 	LXTR_ROOT_BASE = 5             /* slot 1 has no child, and its base is not 0 */
 };
 
-/* The parts of an answer: the reason of a refusal, or 0; whether there is more; whether there is a value; the number. */
+/* The parts of an answer: the refusal, or 0 for none; whether there is more; whether there is a value; the number. */
 static inline unsigned lxtr_refusal(uint64_t answer)
 {
 	return (unsigned)(answer >> 40);
@@ -145,49 +148,49 @@ static inline uint32_t lxtr_number(uint64_t answer)
 	return (uint32_t)answer;
 }
 
-/* Of an answer of lxtr_fault: a number of enum lxtr_list_fault, or 0. */
+/* For an answer of lxtr_fault: a value of enum lxtr_list_fault, or 0. */
 static inline unsigned lxtr_fault_kind(uint64_t answer)
 {
 	return (unsigned)(answer >> 34 & 7);
 }
 
 /*
- * Checks an image. The number is that of its keys. Refusals: 1 to 12, in this order.
+ * Checks an image. The number is how many keys it has. Refusals: 1 to 12, in this order.
  *
- * Nothing is refused exactly when the bytes are an image of a set of keys and values. There is then one such set, and the
- * functions below answer by it. lxtr_exact, lxtr_probe, lxtr_longest and lxtr_prefixes do not look for 9 to 12: on an image
- * with such a fault they answer something, always the same. So check an image once before its answers are trusted; that a
- * word was found says nothing about the rest of the image.
+ * Nothing is refused exactly when the bytes are an image of a set of keys and values. There is then exactly one such set, and
+ * the other functions answer according to it. lxtr_exact, lxtr_probe, lxtr_longest and lxtr_prefixes do not test 9 to 12. On an
+ * image with such a fault they still answer, but the answer may be wrong. So check an image once before you trust its answers.
+ * That a word was found says nothing about the rest of the image.
  */
 uint64_t lxtr_check(const uint8_t *image, size_t image_length);
 
 /*
- * Tells where the fault of an image lies that lxtr_check refuses by 9 to 12: the first place at which that rule is broken.
- * Refusals: 9 to 12, in this order. The answer is 0 if lxtr_check refuses nothing, and also if it refuses by 1 to 8.
+ * Tells where the fault lies in an image that lxtr_check refuses with 9 to 12: the first place at which that rule is broken.
+ * Refusals: 9 to 12, in this order. The answer is 0 if lxtr_check refuses nothing, and also if it refuses with 1 to 8.
  *
  *     refusal * 2^40  +  kind * 2^34  +  number
  *
- * The number is, counted from 0: for 9 the place of a label in the code map; for 10 and 12 a slot; for 11 a slot, but for
- * LXTR_WRONG_ENTRY a place among the E children. Take the kind from lxtr_fault_kind. The kinds of 11 are looked for in their
- * order, each only where no earlier one is found.
+ * The number is counted from 0. For 9 it is the place of a label in the code map, for 10 and 12 a slot. For 11 it is a slot, but
+ * for LXTR_WRONG_ENTRY a place among the E children. lxtr_fault_kind gives the kind. The kinds of 11 are tested in the order of
+ * the enum, each only if no earlier one is found.
  */
 uint64_t lxtr_fault(const uint8_t *image, size_t image_length);
 
 /*
- * Looks a key up: whether there is a value, and the value as the number. No value for a query beyond 64 labels.
+ * Looks up a key: whether it has a value, and the value as the number. A query of more than 64 labels has no value.
  * Refusals: 1 to 8, then 13.
  */
 uint64_t lxtr_exact(const uint8_t *image, size_t image_length, const uint8_t *query, size_t query_length);
 
 /*
- * Looks a key up as lxtr_exact does, and says by "more" whether longer keys begin with the query. Refusals: 1 to 8, then 13.
+ * Looks up a key as lxtr_exact does. "More" says whether longer keys begin with the query. Refusals: 1 to 8, then 13.
  */
 uint64_t lxtr_probe(const uint8_t *image, size_t image_length, const uint8_t *query, size_t query_length);
 
 /*
  * Finds the longest key with which the query begins. The number is its length in labels, so the key is the first 4 * number
- * bytes of the query. It is 0 if there is none, or only the empty key; lxtr_exact of an empty query tells these apart. Only
- * the query's first 64 labels count. Refusals: 1 to 8, then 13.
+ * bytes of the query. It is 0 if there is no such key, or only the empty key; lxtr_exact with an empty query tells these apart.
+ * Only the query's first 64 labels count. Refusals: 1 to 8, then 13.
  */
 uint64_t lxtr_longest(const uint8_t *image, size_t image_length, const uint8_t *query, size_t query_length);
 
@@ -195,45 +198,46 @@ uint64_t lxtr_longest(const uint8_t *image, size_t image_length, const uint8_t *
  * Finds all keys with which the query begins. The number is how many there are, at most 65. Only the query's first 64 labels
  * count. Refusals: 1 to 8, then 13.
  *
- * Afterwards places holds, for each key found, its length in labels and then its value, shortest key first, and zeros
- * behind the last up to LXTR_PREFIX_WORDS words. Words past those are as they were. If places has fewer words, it holds the
- * front of this; the number is the same. places_length counts words.
+ * Afterwards places holds, for each key found, its length in labels and then its value, shortest key first, followed by zeros up
+ * to LXTR_PREFIX_WORDS words. Words past those are unchanged. If places has fewer words, as many are written as it has; the
+ * number is the same. places_length counts words.
  */
 uint64_t lxtr_prefixes(const uint8_t *image, size_t image_length, const uint8_t *query, size_t query_length,
                        uint32_t *places, size_t places_length);
 
 /*
- * Lists the keys that begin with a prefix, the prefix itself if it is a key, in code order. The number is how many records are in
- * the room. "More" says that the listing stopped before a record that had no room; call again with more room to have them all.
- * A prefix that begins no key, or beyond 64 labels, has no records. Refusals: 1 to 8, 13, 9 to 12, 14, in this order: each call
- * checks the whole image, which takes up to a few milliseconds for the largest.
+ * Lists the keys that begin with a prefix, including the prefix itself if it is a key, in code order. The number is how many
+ * records are in the room. "More" says that the listing stopped before a record for which there was no room; call again with more
+ * room to get all of them. A prefix with which no key begins, or of more than 64 labels, has no records. Refusals: 1 to 8, 13, 9
+ * to 12, 14, in this order. Each call checks the whole image, which takes up to a few milliseconds for the largest.
  *
  * Afterwards the room holds a version byte 1, the number of records in four bytes, and the records one after the other. A
  * record is a byte with the number of labels of the key, all labels of the key (those of the prefix too) in four bytes each, and
- * the value in four bytes. Numbers have their highest byte first. Bytes past the last record are as they were.
- * Room for a whole set is 5 bytes, and for each key 5 bytes and 4 for each of its labels.
+ * the value in four bytes. Numbers have their highest byte first. Bytes past the last record are unchanged.
+ * The room for a whole set is 5 bytes, and for each key 5 bytes plus 4 for each of its labels.
  */
 uint64_t lxtr_complete(const uint8_t *image, size_t image_length, const uint8_t *prefix, size_t prefix_length,
                        uint8_t *room, size_t room_length);
 
 /*
- * Builds the image of a key list. The number is the image's length in bytes. Value i is that of the i-th key, from 0 on. The
- * largest lists take seconds.
+ * Builds the image of a key list. The number is the length of the image in bytes. The first key gets value 0, the next 1, and so
+ * on. The largest lists take seconds.
  *
  * A key list is a version byte 1, the number of keys in four bytes, and for each key a byte with its number of labels and the
- * labels in four bytes each. Numbers have their highest byte first. Keys ascend label by label by the labels' numbers (not by
- * codes), a key before its longer keys, and no two are equal.
+ * labels in four bytes each. Numbers have their highest byte first. Keys ascend, compared label by label by the labels' numbers
+ * (not by codes), a key before its longer keys, and no two are equal.
  *
- * work is memory to build in; W words allow W / 2 slots, at most 65,536. Each key takes a slot for its end, and each different
- * front part of the keys one, so 2 * (2 + keys + labels of all keys) words are a first guess; if 22 refuses it, double it. An
- * image built with W words that lists L labels has at most 25 + 8 W + 4 L bytes. The slots that are chosen can depend on W: for
- * the same bytes lend the same work. What work holds before does not matter. work_length counts words.
+ * work is scratch memory. W words allow W / 2 slots, at most 65,536. Each key needs one slot for its end, and each different
+ * front part of the keys needs one. So 2 * (2 + keys + labels of all keys) words are a first guess; if 22 refuses them, lend twice
+ * as many. An image built with W words that lists L labels has at most 25 + 8 W + 4 L bytes. The choice of slots can depend on W:
+ * to get the same bytes, lend the same number of words. What work holds before the call does not matter. work_length counts
+ * words.
  *
- * Refusals in this order: 21; 15 for a list under 5 bytes or of another version; 16; then for each key 15 if its length byte is
- * missing, 17, 15 if its labels are cut short, 18, 19; 15 for bytes left over; 20; 22; 23.
+ * Refusals, in this order: 21; 15 for a list of fewer than 5 bytes or another version; 16; then for each key 15 if its length
+ * byte is missing, 17, 15 if its labels are cut short, 18, 19; 15 for bytes left over; 20; 22; 23.
  *
- * Afterwards the image is at the front of out, whose other bytes are as they were; a refusal leaves all of out as it was.
- * All words of work are 0, also after a refusal, except after 21, which leaves them as they were.
+ * Afterwards the image is at the front of out, and the other bytes of out are unchanged; a refusal leaves all of out unchanged.
+ * All words of work are 0, also after a refusal, except after 21, which leaves them unchanged.
  */
 uint64_t lxtr_build(const uint8_t *keys, size_t keys_length, uint32_t *work, size_t work_length,
                     uint8_t *out, size_t out_length);

@@ -1,6 +1,6 @@
-// Reading a line of the script of `run_examples`: the command's name, its decimal numbers, and its bytes. Bytes are written as
-// hexadecimal numbers of two digits to a byte, a space before each number; NUMBER*N stands for the number N times, NUMBER+N for N
-// numbers that rise from it by 1.
+// Reads a line of the script of `run_examples`: the name of the command, its decimal numbers, and its bytes. Bytes are written as
+// hexadecimal numbers, two digits for each byte, with a space before each number. NUMBER*N means N times the number, NUMBER+N means N
+// numbers, each one more than the one before.
 use lxtr_output::parts::behind;
 use lxtr_output::parts::byte_at;
 
@@ -38,7 +38,7 @@ const LETTERS: u64 = 256;
 // No digit of any base has this value.
 const NO_DIGIT: u64 = 256;
 
-// What a line asks: the command, its numbers, and how many bytes it has. `is_read` is false where the line has not its form.
+// What a line asks: the command, its numbers, and how many bytes it has. `is_read` is false if the line is malformed.
 pub struct Request {
     pub is_read: bool,
     pub command: u64,

@@ -1,5 +1,5 @@
 // The inspector's command: checks, searches, lists, draws and builds LXTR images in files. It calls the proved operations and prints
-// what they answer; its last line is one word, for scripts.
+// their answers. The last line is one word, for scripts.
 mod makers; // build, keys
 mod draw; // draw
 

@@ -1,4 +1,4 @@
-// Which command the first argument names, and whether it takes so many operands.
+// Which command the first argument names, and whether it takes the given number of operands.
 ghost use mathlib.Core.Path.{_≡_};
 ghost use Rattle.lxtr_command_spec.specs.Commands.{sameBytes, taking, laterRows, commandOf};
 use lxtr_command_spec::Command;

@@ -1,1 +1,1 @@
-// Facts about the builder's definitions that the crates of the builder and its demand cite. It holds no code: everything is in specs/.
+// Facts about the builder's definitions that the builder's crates and its demand cite. There is no code: everything is in specs/.

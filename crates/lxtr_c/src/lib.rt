@@ -1,5 +1,5 @@
-// The entries for programs in C and Rust: each operation under a plain name, over slices passed as pointer and length, answering
-// one 64-bit number. `include/lxtr.h` declares them and says what each number means.
+// The entries for programs in C and Rust: each operation under a plain name, with slices passed as pointer and length, and one 64-bit
+// number as the answer. `include/lxtr.h` declares them and says what each number means.
 ghost use mathlib.Core.Path.{_≡_};
 ghost use Rattle.lxtr_spec.specs.HostNumbers.{checkNumber, faultNumber, exactNumber, probeNumber, longestNumber, hostPrefixesOf, hostCompletionOf, hostBuildOf};
 use lxtr_build::build;

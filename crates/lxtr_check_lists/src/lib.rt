@@ -1,4 +1,4 @@
-// Rule 11: a children list is wrong. Offsets are looked at first: only where they don't fall do the lists lie within the children.
+// Rule 11: a children list is wrong. Offsets are tested first: only if none falls do all lists lie within the children array.
 ghost use mathlib.Core.Path.{_≡_};
 ghost use mathlib.Core.Bool.{false};
 ghost use Prim.Native.Nat.{_+_, _<_};

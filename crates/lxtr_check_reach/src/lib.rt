@@ -1,6 +1,6 @@
-// Rule 12: some used slot from 2 up doesn't reach slot 1. Where no slot is wrong (rule 10), each parent is a slot, slots 0 and 1 have
-// parent 0, and a used slot from 2 up has a used one. So from a used slot the way up comes to slot 0 one step after slot 1, in no
-// other way, and stays there: it is enough to look at the slot after so many steps, and no step needs a test.
+// Rule 12: some used slot from 2 up doesn't reach slot 1. If no slot is wrong (rule 10), each parent is a slot, slots 0 and 1 have
+// parent 0, and a used slot from 2 up has a used parent. So the steps from a used slot reach slot 0 only through slot 1, one step after
+// it. Slot 0 is its own parent. So it is enough to look at the slot after STEPS steps, and no single step needs a test.
 ghost use mathlib.Core.Path.{_≡_};
 ghost use mathlib.Core.Bool.{false};
 ghost use Prim.Native.Nat.{_<_};

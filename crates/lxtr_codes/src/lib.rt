@@ -1,5 +1,5 @@
-// The code map of a key list, as three tables: the labels that the keys use, rising; the code of each; and their places in the order
-// of the codes.
+// The code map of a key list, as three tables: the labels that the keys use, in ascending order; the code of each; and their places in
+// the order of the codes.
 mod labels; // the labels
 mod counts; // how many keys contain each
 pub mod guesses; // a label looked up by a guess, also in the crate above

@@ -1,5 +1,5 @@
--- The drawing of an image, in the language of Graphviz: its lines for slots, steps to the parent's children, and entries of the lists;
--- and which of them are drawn.
+-- The drawing of an image, in the language of Graphviz: the lines for slots, for the steps from parents to children and for the entries
+-- of the lists; and which of them are drawn.
 use Prim.Native.Nat.{ℕ, _+_, _-_}
 use mathlib.Core.List.{List, [], _∷_, _++_}
 use mathlib.Core.Bool.{Bool, true, false, _&&_, _||_, not, cond}
@@ -12,11 +12,11 @@ use Rattle.lxtr_spec.specs.declared.Fault.the-variants.{Nowhere, Label, Slot, O
 use Rattle.lxtr_command_spec.specs.Forms.{filled}
 use Rattle.lxtr_command_spec.specs.Commands.{ascii}
 
--- what is wrong is red, all else a dark grey
+-- what is wrong is red, everything else dark grey
 unfoldable pub colour : Bool → ℕ
 colour wrong = cond wrong 0xE00000 0x202020
 
--- an end with its value, any other slot with its base; with its parent; a second border where the prefix is a key
+-- a slot with its parent; an end also with its value, any other slot with its base, and with a second border if its prefix is a key
 unfoldable pub slotLine : List ℕ → ℕ → Bool → List ℕ
 slotLine b s wrong =
     elim (isLeaf b s) [
@@ -24,7 +24,7 @@ slotLine b s wrong =
       | false ↦ filled (ascii "  s% [label=\"slot %\\nbase %\\nparent %\", peripheries=%, color=\"#$\", fontcolor=\"#$\"];\n") (s ∷ s ∷ base b s ∷ parent b s ∷ cond (hasLeaf b s) 2 1 ∷ colour wrong ∷ colour wrong ∷ [])
     ]
 
--- the step from slot p to slot s, with the label of its code; code 0 is the end of a key, and a code above those listed has no label
+-- the step from slot p to slot s, with the label of its code; code 0 is the end of a key, and a code above L has no label
 unfoldable pub stepLine : List ℕ → ℕ → ℕ → List ℕ
 stepLine b p s =
     elim (eqb (codeTo b p s) 0) [
@@ -41,7 +41,7 @@ entryLine b p j wrong =
     filled (ascii "  s% -> s% [label=\"entry %\", style=dashed, constraint=false, color=\"#$\", fontcolor=\"#$\"];\n")
     (p ∷ child b j ∷ j ∷ colour wrong ∷ colour wrong ∷ [])
 
--- ---- what is drawn, with the place at fault as wrong
+-- ---- what is drawn; the place at fault is wrong
 
 -- slot s is the one at fault
 unfoldable pub isWrongSlot : Fault → ℕ → Bool
@@ -67,14 +67,14 @@ isWrongEntry (Childless t) j = false
 isWrongEntry RootBase j = false
 isWrongEntry (Unreachable t) j = false
 
--- slot 1 is drawn, each slot that holds something, and the slot at fault
+-- drawn are slot 1, each slot that holds something, and the slot at fault
 unfoldable pub isDrawn : List ℕ → Fault → ℕ → Bool
 isDrawn b fault s = eqb s 1 || not (bothZero b s) || isWrongSlot fault s
 
 unfoldable pub slotText : List ℕ → Fault → ℕ → List ℕ
 slotText b fault s = elim (isDrawn b fault s) [ true ↦ slotLine b s (isWrongSlot fault s) | false ↦ [] ]
 
--- the step to a slot is drawn where its parent is a slot other than 0
+-- the step to a slot is drawn if its parent is a slot other than 0
 unfoldable pub hasStep : List ℕ → ℕ → Bool
 hasStep b s = not (eqb (parent b s) 0) && ltb (parent b s) (slotCount b)
 
@@ -85,7 +85,7 @@ stepText b s = elim (hasStep b s) [ true ↦ stepLine b (parent b s) s | false �
 unfoldable pub liesIn : List ℕ → ℕ → ℕ → Bool
 liesIn b j p = leb (offset b p) j && ltb j (offset b (p + 1))
 
--- the first slot in whose list entry j lies; where offsets fall, it may lie in others too, and is still drawn once
+-- the first slot in whose list entry j lies; if offsets fall, it may lie in other lists too, and is still drawn once
 unfoldable pub listOf : List ℕ → ℕ → ℕ
 listOf b j = firstBelow (slotCount b) (liesIn b j)
 

@@ -1,5 +1,5 @@
--- The lines that the command prints: keys with their values, and forms, which are text in which a mark stands for a number:
---     %  the next number in decimal,  $  in upper-case hexadecimal,  @  the next number, a label, as quoted text.
+-- The lines that the command prints: keys with their values, and forms. A form is text in which a mark stands for a number:
+--     %  the next number in decimal,  $  the next number in upper-case hexadecimal,  @  the next number, a label, as quoted text.
 use Prim.Native.Nat.{ℕ}
 use mathlib.Core.List.{List, [], _∷_, _++_}
 use mathlib.Core.Bool.{Bool, _&&_, _||_, not, cond}
@@ -13,11 +13,11 @@ use Rattle.lxtr_command_spec.specs.Utf8.{utf8}
 unfoldable pub isControl : ℕ → Bool
 isControl x = ltb x 0x20 || (leb 0x7F x && ltb x 0xA0)
 
--- a label as text; a control character, and what is no scalar value, as the replacement character
+-- a label as text; a control character, or a number that is no scalar value, is shown as the replacement character U+FFFD
 unfoldable pub shown : ℕ → List ℕ
 shown x = cond (isScalar x && not (isControl x)) (utf8 x) (utf8 0xFFFD)
 
--- the same within quotation marks: a backslash before a quotation mark and before a backslash
+-- the same between quotation marks: a backslash before a quotation mark and before a backslash
 unfoldable pub quoted : ℕ → List ℕ
 quoted x = cond (eqb x 0x22 || eqb x 0x5C) (0x5C ∷ x ∷ []) (shown x)
 
@@ -25,7 +25,7 @@ unfoldable pub shownAll : List ℕ → List ℕ
 shownAll [] = []
 shownAll (x ∷ xs) = shown x ++ shownAll xs
 
--- labels in hexadecimal, a space between
+-- labels in hexadecimal, separated by spaces
 unfoldable pub spaced : List ℕ → List ℕ
 spaced [] = []
 spaced (x ∷ xs) = hexadecimal x ++ labelsText xs
@@ -49,7 +49,7 @@ prefixLine count value xs = decimal count ++ (tab ∷ completionLine (xs, value)
 unfoldable pub nextNumber : List ℕ → ℕ
 nextNumber ns = getD ns 0 0
 
--- what a byte of a form gives, where the numbers ns are left, and whether it takes one
+-- the text of a byte of a form, where ns are the numbers left; then whether the byte uses a number
 unfoldable pub piece : ℕ → List ℕ → List ℕ
 piece c ns =
     -- %

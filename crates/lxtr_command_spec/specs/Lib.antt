@@ -1,4 +1,4 @@
--- What the command reads and prints, as definitions. They hold no proof, and compute.
+-- What the command reads and prints, as definitions, without proofs. All of them compute.
 pub mod Utf8
 pub mod WordLists
 pub mod Forms

@@ -9,7 +9,7 @@ use Rattle.lxtr_spec.specs.Numbers.{byteAt, beWords}
 use Rattle.lxtr_spec.specs.Labels.{isScalar}
 use Rattle.lxtr_command_spec.specs.declared.Decoded.{Decoded}
 
--- Section 3, the table: a character number's bytes. A byte 10xxxxxx has the six lowest bits of n.
+-- Section 3, the table: the bytes of a character number. A byte 10xxxxxx holds the six lowest bits of n.
 abbrev pub tailByte : ℕ → ℕ
 tailByte n = 0x80 + n % 64
 
@@ -29,8 +29,8 @@ unfoldable pub textOf : List ℕ → List ℕ
 textOf [] = []
 textOf (x ∷ xs) = utf8 x ++ textOf xs
 
--- Section 3, decoding: the number that the bits x of the bytes at a text's front give; how many bytes these are, the first one tells.
--- A byte that no sequence begins with gives a number that is no scalar value.
+-- Section 3, decoding: the number that the bits x of the bytes at the front of a text give. The first byte tells how many bytes these
+-- are. A byte with which no sequence begins gives a number that is no scalar value.
 unfoldable pub frontNumber : List ℕ → ℕ
 frontNumber t =
     let a = byteAt t 0 in
@@ -49,8 +49,8 @@ beginsWith t [] = true
 beginsWith [] (y ∷ ys) = false
 beginsWith (x ∷ t) (y ∷ ys) = eqb x y && beginsWith t ys
 
--- The text begins with the very bytes of that number, which is a scalar value: so no overlong form, no surrogate, nothing above
--- 10FFFF, and no byte missing or of another kind.
+-- The text begins with exactly the bytes of that number, and the number is a scalar value. So there is no overlong form, no surrogate,
+-- nothing above 10FFFF, and no missing or wrong byte.
 unfoldable pub beginsRight : List ℕ → Bool
 beginsRight t = isScalar (frontNumber t) && beginsWith t (utf8 (frontNumber t))
 
@@ -58,7 +58,7 @@ unfoldable pub optionCons : ℕ → Option (List ℕ) → Option (List ℕ)
 optionCons x none = none
 optionCons x (some xs) = some (x ∷ xs)
 
--- the labels of a text of at most k characters; none where it is not UTF-8
+-- the labels of a text of at most k characters; none if it is not UTF-8
 unfoldable pub labelsWithin : ℕ → List ℕ → Option (List ℕ)
 labelsWithin zero t = elim (eqb (length t) 0) [ true ↦ some [] | false ↦ none ]
 labelsWithin (suc k) t =
@@ -70,11 +70,11 @@ labelsWithin (suc k) t =
       ]
     ]
 
--- a character has a byte or more
+-- the labels of a text: it has at most as many characters as bytes
 unfoldable pub labelsOfText : List ℕ → Option (List ℕ)
 labelsOfText t = labelsWithin (length t) t
 
--- how many labels there are; 1 is the problem of a text that is not UTF-8
+-- how many labels there are; problem 1: the text is not UTF-8
 unfoldable pub counted : Option (List ℕ) → Decoded
 counted none = record { problem = 1; count = 0 }
 counted (some xs) = record { problem = 0; count = length xs }
@@ -82,8 +82,8 @@ counted (some xs) = record { problem = 0; count = length xs }
 unfoldable pub countOf : List ℕ → Decoded
 countOf text = counted (labelsOfText text)
 
--- Decoding into lent room: the labels four bytes each, big-endian, as a query has them; the rest of the room stays. Where the text is
--- not UTF-8 (1) or the room too small (4), all of it stays.
+-- Decoding into lent room: the labels in four bytes each, big-endian, as in a query; the rest of the room stays. If the text is not
+-- UTF-8 (problem 1) or the room is too small (problem 4), all of the room stays.
 pub record DecodingAnswer : Type 0 where
   pub answer : Decoded
   pub room : List ℕ

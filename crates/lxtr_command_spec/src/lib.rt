@@ -1,4 +1,4 @@
-// The answers of what the command is made of: text in UTF-8, and text files of words. What they mean is said in specs/.
+// The answer types of the command's parts: UTF-8 text, text files of words, and arguments. Their meaning is defined in specs/.
 
 // A text decoded into labels: how many there are. `problem` is 0, or NOT_UTF8, or NO_ROOM.
 pub struct Decoded {
@@ -6,8 +6,8 @@ pub struct Decoded {
     pub count: usize,
 }
 
-// A text file of words made into a key list: how many keys it has, and how many bytes. `problem` is 0 or one of those below; `line` is
-// the line at fault, from 1, for the first two of them, and 0 otherwise.
+// The key list of a text file of words: how many keys and how many bytes it has. `problem` is 0 or one of those below. For the first
+// two of them `line` is the line at fault, counted from 1; otherwise it is 0.
 pub struct Keyed {
     pub problem: u8,
     pub line: usize,

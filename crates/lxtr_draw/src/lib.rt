@@ -1,4 +1,4 @@
-// An image's drawing, in the language of Graphviz: what is drawn of each slot and each entry, put at the front of a lent line.
+// The drawing of an image, in the language of Graphviz: what is drawn of each slot and each entry, written to the front of a lent line.
 ghost use mathlib.Core.Path.{_≡_};
 ghost use mathlib.Core.Bool.{cond};
 ghost use Prim.Native.Nat.{_≤_, _<_};

@@ -1,4 +1,4 @@
-// Where the fault of an image lies that refusals 9 to 12 refuse. Any caller may use `fault`.
+// Where the fault lies in an image that is refused by 9 to 12. Any caller may use `fault`.
 mod list_faults; // 11: where a list is wrong
 
 ghost use mathlib.Core.Path.{_≡_};

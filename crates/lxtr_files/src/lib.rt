@@ -1,4 +1,4 @@
-// Files read into lent room and written whole. What the system refuses is told on standard error, with its reason.
+// Reads whole files into lent room, and writes whole files. Errors of the system are reported on standard error, with the reason.
 ghost use Prim.Native.Nat.{_≤_};
 ghost use lib.ListN.{length};
 use lxtr_bytes::heads::HEAD_LENGTH;
@@ -89,7 +89,7 @@ fn write_new(path: &[u8], bytes: &[u8]) -> bool {
     is_written
 }
 
-// Writes the file of that name: first as a new file beside it, which takes its place when all is written.
+// Writes the file of that name: written to NAME.new, then renamed.
 fn replace(path: &[u8], bytes: &[u8]) -> bool {
     let mut name = io::buffer();
     let length = joined(path, b".new", &mut name);

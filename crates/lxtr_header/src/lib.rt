@@ -1,4 +1,4 @@
-// The refusals of an image's header, 1 to 8, over any bytes: each fault as a test, then the first that holds. Any caller may use
+// Refusals 1 to 8 of an image, over any bytes: a test for each fault, then the first refusal that holds. Any caller may use
 // `header_refusal`.
 ghost use mathlib.Core.Path.{_≡_};
 ghost use mathlib.Core.List.{[], _∷_};

@@ -1,5 +1,5 @@
 // Key lists: reading the keys, and the first of refusals 15 to 19. A key list is a version byte 1, a count in four bytes, then per
-// key a length byte and its labels, four bytes each, big-endian. A key is known by the place of its length byte.
+// key a length byte and its labels, four bytes each, big-endian. A key is given by the place of its length byte.
 mod refusals; // 15 and 17 to 19, key by key
 
 ghost use mathlib.Core.Path.{_≡_};

@@ -1,1 +1,1 @@
-// Facts about the definitions of `lxtr_spec` that proofs cite. It holds no code: everything is in specs/.
+// Facts about the definitions of `lxtr_spec` that proofs cite. There is no code: everything is in specs/.

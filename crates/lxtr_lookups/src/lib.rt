@@ -1,5 +1,5 @@
-// The inspector's commands that look an image over or up: check, exact, prefixes, longest, probe and complete. Each calls the proved
-// operation and prints what it answers; the last line is one word, for scripts.
+// The inspector's commands that check and search an image: check, exact, prefixes, longest, probe and complete. Each calls the proved
+// operation and prints its answer. The last line is one word, for scripts.
 ghost use mathlib.Core.Path.{_≡_};
 ghost use mathlib.Core.Bool.{true};
 ghost use Rattle.lxtr_lines.specs.Records.{isWholeRecord};

@@ -1,5 +1,5 @@
-// What the inspector's command says: every sentence by its place in a text. No contract can say what is written; how the marks of a
-// sentence are filled is proved in `lxtr_text`.
+// The sentences of the inspector's command, each given by its place in a text. No contract says which sentence is printed; how the marks
+// of a sentence are filled is proved in `lxtr_text`.
 mod refusals; // the sentence of each refusal, and of each place at fault
 
 use lxtr_output::print;
@@ -91,7 +91,7 @@ pub fn tell(sentence: u8, first: u32, second: u32) {
               value %\n|\
               value none\n|\
               no key has more than % labels\n|\
-              it is not found; but the check refuses the image\n|\
+              it is not found, but the check refuses the image\n|\
               it is no key, but longer keys begin with it\n|\
               no key begins with it\n|\
               longer keys\n|\
@@ -105,9 +105,9 @@ pub fn tell(sentence: u8, first: u32, second: u32) {
               the key list would have more than % bytes\n|\
               the word has more than 4096 bytes\n|\
               the word is not UTF-8\n|\
-              there is no such command; lxtr help lists them\n|\
-              the command takes other operands; lxtr help lists them\n|\
-              the file has more than % bytes, the most that an image has\n|",
+              there is no such command; lxtr help lists the commands\n|\
+              the command takes a different number of operands; see lxtr help\n|\
+              the file has more than % bytes, the size of the largest image\n|",
             sentence,
         ),
         first,

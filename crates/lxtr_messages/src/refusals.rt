@@ -38,12 +38,12 @@ pub fn print_refusal(refusal: u8) {
               refusal 1: the file has fewer than 24 bytes, too few for a header|\
               refusal 2: the file does not begin with LXTR|\
               refusal 3: the version is not 3|\
-              refusal 4: a byte of the header that has to be 0 is not|\
-              refusal 5: the header's slot count is not 2 to 65536, or it has too many children|\
+              refusal 4: a byte of the header that has to be 0 is not 0|\
+              refusal 5: the header's slot count is outside 2 to 65536, or its number of children is too large|\
               refusal 6: the file is not as long as its header says|\
-              refusal 7: the code map has not its form, or not its length|\
+              refusal 7: the code map is malformed, or its length is wrong|\
               refusal 8: the offsets do not go from 0 to the number of children|\
-              refusal 9: the code map lists a label that is no character, or one twice|\
+              refusal 9: the code map lists a label that is no character, or lists one twice|\
               refusal 10: a slot is wrong: words may be lost, or found wrongly|\
               refusal 11: a children list is wrong: completions may lack words that lookups find|\
               refusal 12: from a slot in use, % steps up do not reach slot 1|\
@@ -53,9 +53,9 @@ pub fn print_refusal(refusal: u8) {
               refusal 16: the key list has more than % keys|\
               refusal 17: a key has more than % labels|\
               refusal 18: a key has a label that is no character|\
-              refusal 19: the keys are not sorted, or one is there twice|\
+              refusal 19: the keys are not sorted, or one occurs twice|\
               refusal 20: the keys have more than % different labels|\
-              refusal 21: there is no room to build in|\
+              refusal 21: the scratch memory is too small|\
               refusal 22: the keys do not go into % slots|\
               refusal 23: there is no room for the image|",
             refusal,
@@ -117,8 +117,8 @@ pub fn print_fault(fault: Fault) {
               the list of slot % ends before it begins|\
               entry % of the children, in the list of slot %|\
               slot % is in no list|\
-              slot % is no end and has an empty list|\
-              slot % has an empty list, and yet a base|\
+              slot % is not an end and has an empty list|\
+              slot % has an empty list, but its base is not 0|\
               slot %|",
             fault_case(fault),
         ),

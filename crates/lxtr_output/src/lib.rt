@@ -1,5 +1,5 @@
-// Texts to standard output, one of several by its place. A function's proof grows with each text that the function holds, so a program
-// holds its texts in one, and the functions name them by their places.
+// Texts for standard output, each given by its place among several. Each text in a function makes its proof longer. So a program has
+// all its texts in one literal, and refers to them by their places.
 pub mod parts; // parts of bytes that are never out of bounds
 
 use crate::parts::behind;

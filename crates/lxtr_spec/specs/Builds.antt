@@ -15,7 +15,8 @@ use Rattle.lxtr_spec.specs.CodeMaps.{mapOf, codeIn, labelWith}
 use Rattle.lxtr_spec.specs.Placing.{baseAt, checkAt, isTakenFrom2, place}
 use Rattle.lxtr_spec.specs.declared.Built.{Built}
 
--- The bytes of an image with these nodes (base and check of each slot), offsets, children and labels.
+-- The bytes of an image: its header, its code map, and all of it, with these nodes (base and check of each slot), offsets, children and
+-- labels. M = 5 + 4L.
 unfoldable pub headerBytes : ℕ → ℕ → ℕ → List ℕ
 headerBytes n e m = magic ++ (3 ∷ 0 ∷ 0 ∷ 0 ∷ leWords (n ∷ e ∷ m ∷ 0 ∷ []))
 
@@ -27,16 +28,16 @@ imageBytes nodes offsets children labels =
     headerBytes (length nodes / 2) (length children) (5 + 4 * length labels)
     ++ (leWords nodes ++ (leWords offsets ++ (leWords children ++ mapBytes labels)))
 
--- N is the highest taken slot plus 1: looked for below n.
+-- N is the highest taken slot plus 1: searched below n. (Slots 0 and 1 are taken.)
 unfoldable pub slotsUsed : List ℕ → ℕ → ℕ
 slotsUsed w zero = 2
 slotsUsed w (suc n) = elim (isTakenFrom2 w n) [ true ↦ suc n | false ↦ slotsUsed w n ]
 
--- slot t is one of the N slots from 2 up and has p as parent
+-- slot t is one of slots 2 to N-1 and has p as parent
 unfoldable pub isChild : List ℕ → ℕ → ℕ → ℕ → Bool
 isChild w N p t = leb 2 t && ltb t N && eqb (low31 (checkAt w t)) p
 
--- p's child by code c, if it has one
+-- p's child by code c, if there is one
 unfoldable pub childBy : List ℕ → ℕ → ℕ → ℕ → List ℕ
 childBy w N p c = cond (isChild w N p (slotUnder (baseAt w p) c)) (slotUnder (baseAt w p) c ∷ []) []
 
@@ -44,7 +45,7 @@ childBy w N p c = cond (isChild w N p (slotUnder (baseAt w p) c)) (slotUnder (ba
 unfoldable pub childrenOf : List ℕ → ℕ → ℕ → ℕ → List ℕ
 childrenOf w N L p = elim (eqb p 0 || topBit (baseAt w p)) [ true ↦ [] | false ↦ concatFrom (L + 1) 0 (childBy w N p) ]
 
--- the children of all slots, and the offsets of the n slots from p on, whose children begin at place e, with the end of the last
+-- the children of all slots; then the offsets of the n slots from p on, whose children start at place e, and the offset after the last
 unfoldable pub childrenIn : List ℕ → ℕ → ℕ → List ℕ
 childrenIn w N L = concatFrom N 0 (childrenOf w N L)
 
@@ -60,16 +61,16 @@ imageIn w N labels = imageBytes (take (2 * N) w) (offsetsFrom w N (length labels
 unfoldable pub slotsIn : ℕ → ℕ
 slotsIn W = min maxSlots (W / 2)
 
--- Place slot 1's children, ..: all keys pass slot 1, and no label of them is used up there.
+-- Place slot 1's children, ..: all keys pass slot 1, with all their labels left.
 unfoldable pub placedIn : ℕ → List Pair → List ℕ → Option (List ℕ)
 placedIn W ps labels = place (slotsIn W) (codeIn labels) (labelWith labels) lengthCount 1 ps (replicate W 0)
 
--- a refusal's number, or an image
+-- the number of a refusal, or an image
 pub data Outcome : Type 0 where
   refuses : ℕ → Outcome
   builds : List ℕ → Outcome
 
--- 23 output shorter than the image, where it has R bytes
+-- 23 output shorter than the image; the output has R bytes
 unfoldable pub withRoom : ℕ → List ℕ → Outcome
 withRoom R image = elim (ltb R (length image)) [ true ↦ refuses 23 | false ↦ builds image ]
 
@@ -86,7 +87,7 @@ fromLabels W R ps labels = elim (ltb maxListed (length labels)) [ true ↦ refus
 unfoldable pub fromKeys : ℕ → ℕ → List ℕ → Outcome
 fromKeys W R keys = elim (listRefusal keys) [ zero ↦ fromLabels W R (pairsOf keys) (mapOf (pairsOf keys)) | suc k ↦ refuses (suc k) ]
 
--- Refusals, in order: 21 W below 4, and then those above.
+-- Refusals, in order: 21 W below 4; then those above.
 unfoldable pub outcomeOf : ℕ → ℕ → List ℕ → Outcome
 outcomeOf W R keys = elim (ltb W 4) [ true ↦ refuses 21 | false ↦ fromKeys W R keys ]
 

@@ -16,7 +16,8 @@ use Rattle.lxtr_spec.specs.declared.Completion.{Completion}
 
 -- Depth first, children by ascending code, so an end precedes its longer keys.
 
--- what entry j of the list of slot n, which the labels key reach, gives: an end its pair, any other child the pairs below it
+-- the pairs of entry j in the list of slot n, which is reached by the labels `key`: for an end its pair, for any other child the pairs
+-- below it
 unfoldable pub entryPairs : List ℕ → (ℕ → List ℕ → List Pair) → ℕ → List ℕ → ℕ → List Pair
 entryPairs b below n key j =
     elim (isLeaf b (child b j)) [
@@ -24,7 +25,7 @@ entryPairs b below n key j =
       | false ↦ below (child b j) (key ++ labelOfCode b (codeTo b n (child b j)) ∷ [])
     ]
 
--- the pairs below slot n, which the labels key reach, with k labels still allowed
+-- the pairs below slot n, which is reached by the labels `key`, with k labels still allowed
 unfoldable pub listFrom : List ℕ → ℕ → ℕ → List ℕ → List Pair
 listFrom b zero n key = []
 listFrom b (suc k) n key = concatFrom (listWidth b n) (offset b n) (entryPairs b (listFrom b k) n key)
@@ -34,11 +35,11 @@ unfoldable pub pairsAt : List ℕ → List ℕ → Option ℕ → List Pair
 pairsAt b xs none = []
 pairsAt b xs (some n) = listFrom b (lengthCount - length xs) n xs
 
--- the pairs whose keys begin with the labels; a prefix beyond 64 labels or not present has none
+-- The pairs whose keys begin with the labels. A prefix beyond 64 labels or not present gives count 0.
 unfoldable pub pairsBelow : List ℕ → List ℕ → List Pair
 pairsBelow b xs = pairsAt b xs (walkWithin b xs)
 
--- per pair a length byte, all labels of the key (the prefix's too), the value in four bytes, all big-endian
+-- then per pair a length byte, all labels of the key (the prefix's too), the value in four bytes, all big-endian
 unfoldable pub recordOf : Pair → List ℕ
 recordOf p = length (p .0) ∷ (beWords (p .0) ++ beBytes (p .1))
 
@@ -46,16 +47,16 @@ unfoldable pub recordsOf : List Pair → List ℕ
 recordsOf [] = []
 recordsOf (p ∷ ps) = recordOf p ++ recordsOf ps
 
--- It stops before the first record without room: the pairs whose records go into r bytes.
+-- It stops before the first record without room: the pairs at the front whose records fit in r bytes.
 unfoldable pub fitting : ℕ → List Pair → List Pair
 fitting r [] = []
 fitting r (p ∷ ps) = cond (leb (length (recordOf p)) r) (p ∷ fitting (r - length (recordOf p)) ps) []
 
--- version byte 1, count in four bytes, then the records
+-- version byte 1, count in four bytes, then the records of the pairs
 unfoldable pub listingOf : List Pair → List ℕ
 listingOf ps = 1 ∷ (beBytes (length ps) ++ recordsOf ps)
 
--- the room with a listing at its front; bytes past the last record stay
+-- The room with a listing at its front. Bytes past the last record stay.
 unfoldable pub listedIn : List ℕ → List Pair → List ℕ
 listedIn room ps = listingOf ps ++ drop (length (listingOf ps)) room
 
@@ -72,18 +73,18 @@ pub record CompletionAnswer : Type 0 where
 unfoldable pub completionAnswer : ℕ → ℕ → Bool → List ℕ → CompletionAnswer
 completionAnswer k count stopped room = record { answer = record { refusal = k; count = count; stopped = stopped }; room = room }
 
--- as many of the pairs as there is room for; whether it stopped
+-- It stops before the first record without room and says whether it stopped.
 unfoldable pub written : List ℕ → List Pair → CompletionAnswer
 written room ps =
     let fit : List Pair = fitting (length room - 5) ps in
     completionAnswer 0 (length fit) (ltb (length fit) (length ps)) (listedIn room fit)
 
--- 1 to 8, then 13; completion then tests 9 to 12; room below 5 bytes: 14, tested last
+-- 1 to 8, then 13. Completion then tests 9 to 12. Room below 5 bytes: 14, tested last, nothing written.
 unfoldable pub completionRefusal : List ℕ → List ℕ → List ℕ → ℕ
 completionRefusal b q room =
     let later = firstRefusal (bodyRefusal b) (refuseIf (ltb (length room) 5) 14 0) in firstRefusal (searchRefusal b q) later
 
--- Refusals write nothing in lent room.
+-- Refusals answer zero, and write nothing in lent room.
 unfoldable pub completionOf : List ℕ → List ℕ → List ℕ → CompletionAnswer
 completionOf b q room =
     let listed = written room (pairsBelow b (labelsOf q)) in

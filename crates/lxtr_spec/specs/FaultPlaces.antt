@@ -1,4 +1,4 @@
--- Where a fault lies: for refusals 9 to 12 the first place at which the rule does not hold. Not in document 01, whose rules it follows.
+-- Where a fault lies: for refusals 9 to 12 the first place at which the rule does not hold. Document 01 has the rules, not the places.
 use Prim.Native.Nat.{ℕ, _+_}
 use mathlib.Core.List.{List}
 use mathlib.Core.Bool.{Bool, true, false, _&&_, not}
@@ -26,23 +26,24 @@ slotFault b = Slot (firstBelow (slotCount b) (slotWrong b))
 unfoldable pub offsetFault : List ℕ → Fault
 offsetFault b = Offset (firstBelow (slotCount b) (offsetFalls b))
 
--- the first wrong entry of the list of slot p, by its place in the children array
+-- the first wrong entry in the list of slot p, as its place in the children array
 unfoldable pub entryFaultOf : List ℕ → ℕ → Fault
 entryFaultOf b p = Entry p (offset b p + firstBelow (listWidth b p) (entryWrongIn b p))
 
--- and of all lists
+-- the first wrong entry in all lists
 unfoldable pub entryFault : List ℕ → Fault
 entryFault b = entryFaultOf b (firstBelow (slotCount b) (entriesWrong b))
 
--- the entry i places into the list of slot p is slot s
+-- entry i of the list of slot p is slot s
 unfoldable pub isEntry : List ℕ → ℕ → ℕ → ℕ → Bool
 isEntry b p s i = eqb (child b (offset b p + i)) s
 
--- a used slot from 2 up that the list of its parent does not have
+-- a used slot from 2 up that is not in the list of its parent
 unfoldable pub unlisted : List ℕ → ℕ → Bool
 unlisted b s = isUsedFrom2 b s && not (anyBelow (listWidth b (parent b s)) (isEntry b (parent b s) s))
 
--- where offsets don't fall and no entry is wrong, E differs from the used slots from 2 up exactly when one of these is unlisted: the first
+-- If no offset falls and no entry is wrong, E differs from the used slots from 2 up exactly when one of these is unlisted: the first
+-- such slot.
 unfoldable pub unlistedFault : List ℕ → Fault
 unlistedFault b = Unlisted (firstBelow (slotCount b) (unlisted b))
 
@@ -50,7 +51,7 @@ unlistedFault b = Unlisted (firstBelow (slotCount b) (unlisted b))
 unfoldable pub childlessFault : List ℕ → Fault
 childlessFault b = Childless (firstBelow (slotCount b) (childless b))
 
--- of these the first that is there; slot 1 is what is left
+-- the first of these faults that is there; if none is, the fault is the base of slot 1
 unfoldable pub listFault : List ℕ → Fault
 listFault b =
     faultIf (anyBelow (slotCount b) (offsetFalls b)) (offsetFault b)
@@ -63,11 +64,11 @@ listFault b =
 unfoldable pub reachFault : List ℕ → Fault
 reachFault b = Unreachable (firstBelow (slotCount b) (unreachable b))
 
--- the one of these four that goes with a refusal; with 1 to 8, or none, the fault lies nowhere
+-- the one of these four that belongs to a refusal; for 1 to 8, or no refusal, there is no place
 unfoldable pub faultBy : ℕ → Fault → Fault → Fault → Fault → Fault
 faultBy k label slot list reach = faultIf (eqb k 9) label (faultIf (eqb k 10) slot (faultIf (eqb k 11) list (faultIf (eqb k 12) reach Nowhere)))
 
--- (What a `let` binds is computed only where it is read: each only after its refusal.)
+-- (What a `let` binds is computed only where it is used: each only after its refusal.)
 unfoldable pub faultOf : List ℕ → Fault
 faultOf b =
     let label = labelFault b in

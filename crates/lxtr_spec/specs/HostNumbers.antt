@@ -1,5 +1,4 @@
--- Document 01, "The searches": the one 64-bit number by which an operation answers a host program in C.
--- Document 01 has check, exact, probe and the length of longest; the place of a fault, prefixes, completions and building follow in the same manner.
+-- Document 01, "The searches": the 64-bit number that an operation answers to a host program in C.
 use Prim.Native.Nat.{ℕ, _+_, _*_, _^_}
 use mathlib.Core.List.{List, [], _∷_, _++_}
 use mathlib.Core.Option.{Option, some, none}
@@ -18,12 +17,13 @@ use Rattle.lxtr_spec.specs.declared.Prefixes.{Prefixes}
 use Rattle.lxtr_spec.specs.declared.Completion.{Completion}
 use Rattle.lxtr_spec.specs.declared.Built.{Built}
 
--- the refusal number times 2^40, plus 2^33 if longer keys exist (probe only), plus 2^32 if there is a value (exact and probe),
--- plus the value, the pair count or the length in labels
+-- Check, exact, probe and the length of longest are also called by the terminal's host program, which is in C, with byte buffers and
+-- number results. Each answers one 64-bit number: the refusal number times 2^40, plus 2^33 if longer keys exist (probe only),
+-- plus 2^32 if there is a value (exact and probe), plus the value, the pair count or the length in labels.
 unfoldable pub hostNumber : ℕ → Bool → Bool → ℕ → ℕ
 hostNumber k more valued n = k * 2 ^ 40 + cond more (2 ^ 33) 0 + cond valued (2 ^ 32) 0 + n
 
--- of a value or none
+-- the number of a value or none
 unfoldable pub valueNumbered : ℕ → Bool → Option ℕ → ℕ
 valueNumbered k more none = hostNumber k more false 0
 valueNumbered k more (some v) = hostNumber k more true v
@@ -40,13 +40,13 @@ probeNumber b q = valueNumbered (probeOf b q .refusal) (probeOf b q .longer) (pr
 unfoldable pub longestNumber : List ℕ → List ℕ → ℕ
 longestNumber b q = hostNumber (searchRefusal b q) false false (longestLength b q)
 
--- Not in document 01, which gives these no number: the number, and what the lent memory holds afterwards.
+-- Not in document 01: the numbers of the other operations, made in the same way, and what the lent memory holds afterwards.
 
 -- Where a fault lies: its refusal, for refusal 11 the kind of fault, and the place.
 unfoldable pub placeNumber : ℕ → ℕ → ℕ → ℕ
 placeNumber k kind place = k * 2 ^ 40 + kind * 2 ^ 34 + place
 
--- an entry by its place in the children array
+-- an entry is given by its place in the children array
 unfoldable pub faultNumbered : Fault → ℕ
 faultNumbered Nowhere = 0
 faultNumbered (Label i) = placeNumber 9 0 i
@@ -61,19 +61,19 @@ faultNumbered (Unreachable s) = placeNumber 12 0 s
 unfoldable pub faultNumber : List ℕ → ℕ
 faultNumber b = faultNumbered (faultOf b)
 
--- Prefixes: the count; in lent words length and value alternately, shortest first.
+-- Prefixes: the count; in lent words, length and value alternately, shortest first.
 pub record HostPrefixes : Type 0 where
   pub number : ℕ
   pub places : List ℕ
 
--- length and value of place j, and of all 65 places
+-- length and value of place j; then of all 65 places
 unfoldable pub placeWords : List ℕ → List ℕ → ℕ → List ℕ
 placeWords lengths values j = getD lengths j 0 ∷ getD values j 0 ∷ []
 
 unfoldable pub alternately : List ℕ → List ℕ → List ℕ
 alternately lengths values = concatFrom lengthCount 0 (placeWords lengths values)
 
--- words at the front of the lent ones, as far as these go; lent words past them stay
+-- words at the front of the lent words, as many as fit; lent words past them stay
 unfoldable pub atFront : List ℕ → List ℕ → List ℕ
 atFront xs places = take (length places) xs ++ drop (length xs) places
 
@@ -87,7 +87,7 @@ prefixesNumber p = hostNumber (p .refusal) false false (p .count)
 unfoldable pub hostPrefixesOf : List ℕ → List ℕ → List ℕ → HostPrefixes
 hostPrefixesOf b q places = record { number = prefixesNumber (prefixesOf b q); places = placesAfter (prefixesOf b q) places }
 
--- Completions: the count of records, plus 2^33 if it stopped.
+-- Completions: the count of records, plus 2^33 if the listing stopped.
 pub record HostCompletion : Type 0 where
   pub number : ℕ
   pub room : List ℕ

@@ -29,7 +29,7 @@ childCount b = le32 b 12
 unfoldable pub mapLength : List ℕ → ℕ
 mapLength b = le32 b 16
 
--- Then N nodes (base, check), N+1 offsets, E children, M bytes of code map: where each part starts, and the length of all.
+-- Then N nodes (base, check), N+1 offsets, E children, M bytes of code map: where each part starts.
 abbrev pub nodesAt : ℕ
 nodesAt = headerLength
 
@@ -42,6 +42,7 @@ childrenAt b = offsetsAt b + 4 * (slotCount b + 1)
 abbrev pub mapAt : List ℕ → ℕ
 mapAt b = childrenAt b + 4 * childCount b
 
+-- Length = 24 + 8N + 4(N+1) + 4E + M.
 abbrev pub imageLength : List ℕ → ℕ
 imageLength b = mapAt b + mapLength b
 
@@ -79,21 +80,21 @@ valueNumber b s = low31 (baseWord b s)
 unfoldable pub hasParent : List ℕ → ℕ → ℕ → Bool
 hasParent b t n = ltb t (slotCount b) && eqb (parent b t) n
 
--- the slot that code c reaches from slot n, and the code by which slot n reaches slot s: the joining rule over the base of slot n
+-- the slot that code c reaches from slot n, and the code that leads from slot n to slot s: the joining rule with the base of slot n
 unfoldable pub slotFrom : List ℕ → ℕ → ℕ → ℕ
 slotFrom b n c = slotUnder (base b n) c
 
 unfoldable pub codeTo : List ℕ → ℕ → ℕ → ℕ
 codeTo b n s = codeUnder (base b n) s
 
--- offset p and child j of their arrays; the list of slot p is the children from offset p up to offset p + 1
+-- offset p, and child j of the children array; the list of slot p is the children from offset p up to offset p + 1
 unfoldable pub offset : List ℕ → ℕ → ℕ
 offset b p = le32 b (offsetsAt b + 4 * p)
 
 unfoldable pub child : List ℕ → ℕ → ℕ
 child b j = le32 b (childrenAt b + 4 * j)
 
--- how many those are; a falling offset pair has width 0
+-- how many these are. A falling offset pair has width 0. (A difference of natural numbers is 0 where it would be negative.)
 unfoldable pub listWidth : List ℕ → ℕ → ℕ
 listWidth b p = offset b (p + 1) - offset b p
 
@@ -112,7 +113,7 @@ labelAt b i = be32 b (mapAt b + 5 + 4 * i)
 unfoldable pub labelOfCode : List ℕ → ℕ → ℕ
 labelOfCode b c = labelAt b (c - 1)
 
--- the code of a label, which is its first place in the map: looked for at the n places from i on, and at all places
+-- The code of a label is its first place in the map: first among the n places from i on, then among all places.
 unfoldable pub codeFrom : List ℕ → ℕ → ℕ → ℕ → Option ℕ
 codeFrom b x zero i = none
 codeFrom b x (suc n) i = elim (eqb (labelAt b i) x) [ true ↦ some (i + 1) | false ↦ codeFrom b x n (i + 1) ]

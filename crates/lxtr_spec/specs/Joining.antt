@@ -1,4 +1,4 @@
--- The joining rule: a slot, the base of the slot before it and the code between them. Nothing else knows that it is XOR.
+-- The joining rule: how a slot, the base of its parent and the code of the step belong together. No other definition uses XOR.
 use Prim.Native.Nat.{ℕ}
 use lib.Bits.{bitXor}
 
@@ -6,6 +6,6 @@ use lib.Bits.{bitXor}
 unfoldable pub slotUnder : ℕ → ℕ → ℕ
 slotUnder base c = bitXor base c
 
--- the code by which a base reaches a slot
+-- the code that leads from a base to a slot
 unfoldable pub codeUnder : ℕ → ℕ → ℕ
 codeUnder base s = bitXor base s

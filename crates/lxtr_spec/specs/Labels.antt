@@ -6,15 +6,16 @@ use lib.ListN.{length}
 use lib.Dec.{leb, ltb, eqb}
 use Rattle.lxtr_spec.specs.Numbers.{be32}
 
--- A label is a Unicode scalar value: 0 to 0x10FFFF without 0xD800 to 0xDFFF.
+-- A label is a Unicode scalar value: 0 to 0x10FFFF without 0xD800 to 0xDFFF. Byte keys use 0 to 255.
+-- (These are scalar values too, so byte keys need no definition of their own.)
 unfoldable pub isScalar : ℕ → Bool
 isScalar x = leb x 0x10FFFF && not (leb 0xD800 x && leb x 0xDFFF)
 
--- A key has 0 to 64 labels. All other numbers that follow from this limit are written by its name.
+-- A key has 0 to 64 labels; the empty key is a key. All numbers that follow from this limit are written with this name.
 unfoldable pub maxLabels : ℕ
 maxLabels = 64
 
--- one for each possible length of a key, from 0 on
+-- the number of possible lengths of a key, from 0 to 64
 abbrev pub lengthCount : ℕ
 lengthCount = maxLabels + 1
 
@@ -31,14 +32,14 @@ maxSlots = 65536
 abbrev pub maxListed : ℕ
 maxListed = 4095
 
--- Keys compare label by label as numbers, a proper prefix first. (The same order of two lists of codes is code order.)
+-- Keys compare label by label as numbers, a proper prefix first. (Code order is the same order of the lists of codes.)
 unfoldable pub comesBefore : List ℕ → List ℕ → Bool
 comesBefore [] [] = false
 comesBefore [] (y ∷ l) = true
 comesBefore (x ∷ k) [] = false
 comesBefore (x ∷ k) (y ∷ l) = ltb x y || (eqb x y && comesBefore k l)
 
--- A query is bytes, four to a label, big-endian: the n labels from place i on, and all of them.
+-- A query is bytes, four to a label, big-endian: first its n labels from place i on, then all of them.
 unfoldable pub labelsFrom : List ℕ → ℕ → ℕ → List ℕ
 labelsFrom q zero i = []
 labelsFrom q (suc n) i = be32 q (4 * i) ∷ labelsFrom q n (i + 1)

@@ -1,4 +1,5 @@
--- Document 01 as definitions; each file names its section. They hold no proof. All but Sets and Meaning, which say what has to hold, compute.
+-- Document 01 as definitions, without proofs. Each file names its section. All of them compute, except Sets and Meaning, which state
+-- what has to hold.
 pub mod Ranges
 pub mod Numbers
 pub mod Labels

@@ -15,12 +15,12 @@ lineEnd = 0x0A
 unfoldable pub digitOf : ℕ → ℕ
 digitOf d = cond (ltb d 10) (0x30 + d) (0x37 + d)
 
--- a number to a base, without leading zeros (0 as `0`), where k digits are enough
+-- a number in a base, without leading zeros (0 as `0`), if k digits are enough
 unfoldable pub numeral : ℕ → ℕ → ℕ → List ℕ
 numeral base zero n = []
 numeral base (suc k) n = cond (ltb n base) (digitOf n ∷ []) (numeral base k (n / base) ++ (digitOf (n % base) ∷ []))
 
--- numbers of 32 bits: in decimal, and in upper-case hexadecimal; how many digits are enough
+-- numbers of 32 bits in decimal and in upper-case hexadecimal: how many digits are enough, and the digits
 abbrev pub decimalDigits : ℕ
 decimalDigits = 10
 
@@ -33,11 +33,11 @@ decimal n = numeral 10 decimalDigits n
 unfoldable pub hexadecimal : ℕ → List ℕ
 hexadecimal n = numeral 16 hexadecimalDigits n
 
--- a line of a word and a number: `pairs` and the count, `refused` and its number
+-- a line `pairs` and the count; a refusal prints `refused` and its number
 unfoldable pub numberLine : List ℕ → ℕ → List ℕ
 numberLine word n = word ++ (space ∷ (decimal n ++ (lineEnd ∷ [])))
 
--- per pair the value in decimal and each label in upper-case hexadecimal without leading zeros, one space between
+-- then per pair the value in decimal and each label in upper-case hexadecimal without leading zeros (0 as `0`), one space between
 unfoldable pub labelsText : List ℕ → List ℕ
 labelsText [] = []
 labelsText (x ∷ k) = space ∷ (hexadecimal x ++ labelsText k)

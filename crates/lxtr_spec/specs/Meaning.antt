@@ -1,4 +1,4 @@
--- What each search says of an image's set of pairs d, where the query's labels are xs. Exact gives d xs; the others as follows.
+-- What each search answers in terms of the set of pairs d of an image, where xs are the labels of the query. Exact gives d xs.
 use Prim.Native.Nat.{ℕ, _≤_, _<_}
 use mathlib.Core.Path.{_≡_}
 use mathlib.Core.Logic.{_⊎_}
@@ -20,7 +20,7 @@ Ordered R (x ∷ y ∷ l) = R x y × Ordered R (y ∷ l)
 abbrev pub Shorter : ℕ × ℕ → ℕ × ℕ → Type 0
 Shorter m n = m .0 < n .0
 
--- Prefixes: ms are length and value of the prefixes of the labels that are keys, shortest first, and none besides.
+-- Prefixes: ms are length and value of exactly those prefixes of the labels that are keys, shortest first.
 pub record PrefixesIn (d : PairSet) (xs : List ℕ) (ms : List (ℕ × ℕ)) : Type 0 where
   pub rising : Ordered Shorter ms
   pub all : (p r : List ℕ) (v : ℕ) → xs ≡ p ++ r → Has d p v → List·Memᴰ (length p, v) ms
@@ -31,14 +31,14 @@ pub record LongestIn (d : PairSet) (xs : List ℕ) (n : ℕ) : Type 0 where
   pub most : (p r : List ℕ) (v : ℕ) → xs ≡ p ++ r → Has d p v → length p ≤ n
   pub is : (n ≡ 0) ⊎ ((p : List ℕ) × (r : List ℕ) × (v : ℕ) × (xs ≡ p ++ r) × (length p ≡ n) × Has d p v)
 
--- Probe gives d xs, and says whether longer keys exist: a key of the set goes on after the labels.
+-- Probe gives d xs, and says whether longer keys exist: some key of the set begins with the labels and is longer.
 pub record Longer (d : PairSet) (xs : List ℕ) : Type 0 where
   pub next : ℕ
   pub rest : List ℕ
   pub value : ℕ
   pub is : Has d (xs ++ next ∷ rest) value
 
--- Code order compares keys by their labels' codes, one after the other, a proper prefix first. (Every label of a key is listed; 0 stands for no code.)
+-- Code order compares keys by their labels' codes, one after the other, a proper prefix first. (Every label of a key is listed, so the 0 for a missing code is never used.)
 unfoldable pub labelCode : List ℕ → ℕ → ℕ
 labelCode b x = Option·getD (codeOf b x) 0
 
@@ -48,13 +48,14 @@ beforeByCode b k l = comesBefore (map (labelCode b) k) (map (labelCode b) l)
 abbrev pub CodeBefore : List ℕ → Pair → Pair → Type 0
 CodeBefore b p r = beforeByCode b (p .0) (r .0) ≡ true
 
--- Completions: ps are the pairs of the set whose keys begin with the labels, in code order, and none besides.
+-- Completions: ps are exactly the pairs of the set whose keys begin with the labels, in code order.
 pub record Lists (b : List ℕ) (d : PairSet) (xs : List ℕ) (ps : List Pair) : Type 0 where
   pub ordered : Ordered (CodeBefore b) ps
   pub all : (r : List ℕ) (v : ℕ) → Has d (xs ++ r) v → List·Memᴰ (xs ++ r, v) ps
   pub only : (k : List ℕ) (v : ℕ) → List·Memᴰ (k, v) ps → (r : List ℕ) × (k ≡ xs ++ r) × Has d k v
 
--- It stops before the first record without room: fit is the front part of ps for which r bytes are room enough, and with the next pair they are not.
+-- It stops before the first record without room: fit is a front part of ps for which r bytes are enough, and with the next pair they
+-- are not enough.
 pub record FittingFront (r : ℕ) (ps fit : List Pair) : Type 0 where
   pub rest : List Pair
   pub parts : ps ≡ fit ++ rest

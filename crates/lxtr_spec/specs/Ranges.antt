@@ -1,4 +1,5 @@
--- Ranges of numbers: whether one below a bound passes a test, how many do, which is the first, and what a range gives one after the other.
+-- Ranges of numbers: whether some number below a bound passes a test, how many do, which is the first, and the lists that the numbers
+-- of a range give, joined.
 use Prim.Native.Nat.{ℕ, zero, suc, _+_}
 use mathlib.Core.List.{List, [], _++_}
 use mathlib.Core.Bool.{Bool, true, false, _||_, cond}
@@ -13,7 +14,7 @@ unfoldable pub countBelow : ℕ → (ℕ → Bool) → ℕ
 countBelow zero f = 0
 countBelow (suc n) f = countBelow n f + cond (f n) 1 0
 
--- the first number below n that passes, or n where none does: looked for at n numbers from i on, and at all from 0
+-- the first number below n that passes, or n if none does: first among the n numbers from i on, then among all numbers below n
 unfoldable pub firstFrom : ℕ → ℕ → (ℕ → Bool) → ℕ
 firstFrom zero i f = i
 firstFrom (suc n) i f = elim (f i) [ true ↦ i | false ↦ firstFrom n (i + 1) f ]
@@ -21,7 +22,7 @@ firstFrom (suc n) i f = elim (f i) [ true ↦ i | false ↦ firstFrom n (i + 1) 
 unfoldable pub firstBelow : ℕ → (ℕ → Bool) → ℕ
 firstBelow n f = firstFrom n 0 f
 
--- what j, j + 1, .., of which there are n, give one after the other
+-- the lists that f gives for the n numbers j, j + 1, .., joined
 unfoldable pub concatFrom : {A : Type 0} → ℕ → ℕ → (ℕ → List A) → List A
 concatFrom zero j f = []
 concatFrom (suc n) j f = f j ++ concatFrom n (j + 1) f

@@ -10,12 +10,13 @@ use Rattle.lxtr_spec.specs.Labels.{isScalar, lengthCount, minSlots, maxS
 use Rattle.lxtr_spec.specs.Image.{headerLength, magic, version, slotCount, childCount, mapLength, imageLength, baseWord, checkWord, isLeaf, hasLeaf, parent, hasParent, base, codeTo, offset, child, listWidth, mapVersion, labelCount, labelAt}
 use Rattle.lxtr_spec.specs.declared.Verdict.{Verdict}
 
--- refusal k if the fault is there, and otherwise what comes after it; 0 is no refusal
+-- A refusal is given exactly when its condition holds and no earlier one holds: refusal k if the fault is there, and otherwise what
+-- comes after it; 0 is no refusal.
 unfoldable pub refuseIf : Bool → ℕ → ℕ → ℕ
 refuseIf true k later = k
 refuseIf false k later = later
 
--- a refusal, or what comes after it where there is none
+-- a refusal, or what comes after it if there is none
 unfoldable pub firstRefusal : ℕ → ℕ → ℕ
 firstRefusal zero later = later
 firstRefusal (suc k) later = suc k
@@ -96,7 +97,7 @@ ownCode b s = codeTo b (parent b s) s
 unfoldable pub bothZero : List ℕ → ℕ → Bool
 bothZero b s = eqb (baseWord b s) 0 && eqb (checkWord b s) 0
 
--- what rule 10 says of a used slot from 2 up
+-- of a used slot from 2 up, ..
 unfoldable pub usedSlotWrong : List ℕ → ℕ → Bool
 usedSlotWrong b s =
     -- a parent that isn't below N, is unused or is a leaf,
@@ -110,6 +111,7 @@ usedSlotWrong b s =
 unfoldable pub endExists : List ℕ → ℕ → Bool
 endExists b s = not (isLeaf b s) && hasParent b (base b s) s
 
+-- HAS_LEAF differing from that
 unfoldable pub flagWrong : List ℕ → ℕ → Bool
 flagWrong b s = not (Bool·beq (hasLeaf b s) (endExists b s))
 
@@ -130,24 +132,24 @@ slotWrong b s =
 unfoldable pub slotsWrong : List ℕ → Bool
 slotsWrong b = anyBelow (slotCount b) (slotWrong b)
 
--- 11, first part: offsets fall
+-- 11: offsets fall; here offset p + 1 is below offset p
 unfoldable pub offsetFalls : List ℕ → ℕ → Bool
 offsetFalls b p = ltb (offset b (p + 1)) (offset b p)
 
--- E differs from the used slots from 2 up: how many of these there are
+-- E differs from the used slots from 2 up: the number of these
 unfoldable pub usedCount : List ℕ → ℕ
 usedCount b = countBelow (slotCount b) (isUsedFrom2 b)
 
--- an entry j of the list of slot p is outside 2 to N-1, unused or has another parent
+-- an entry is outside 2 to N-1, unused or has another parent: entry j of the list of slot p
 unfoldable pub entryWrong : List ℕ → ℕ → ℕ → Bool
 entryWrong b p j =
     ltb (child b j) 2 || leb (slotCount b) (child b j) || not (isUsed b (child b j)) || not (eqb (parent b (child b j)) p)
 
--- codes don't rise strictly: that of entry j of the list of slot p is not above that of the entry before it there
+-- codes don't rise strictly: the code of entry j is not above that of the entry before it in the list of slot p
 unfoldable pub codeNotAbove : List ℕ → ℕ → ℕ → Bool
 codeNotAbove b p j = ltb (offset b p) j && leb (codeTo b p (child b j)) (codeTo b p (child b (j - 1)))
 
--- one of these two at the entry i places into the list of slot p
+-- one of these two faults, at entry i of the list of slot p
 unfoldable pub entryWrongIn : List ℕ → ℕ → ℕ → Bool
 entryWrongIn b p i = entryWrong b p (offset b p + i) || codeNotAbove b p (offset b p + i)
 
@@ -187,21 +189,23 @@ someUnreachable b = anyBelow (slotCount b) (unreachable b)
 unfoldable pub bodyRefusal : List ℕ → ℕ
 bodyRefusal b = refuseIf (labelsWrong b) 9 (refuseIf (slotsWrong b) 10 (refuseIf (listsWrong b) 11 (refuseIf (someUnreachable b) 12 0)))
 
--- the first of 1 to 12 that holds, or 0. (What a `let` binds is computed only where it is read: 9 to 12 only after 1 to 8, where N is small.)
+-- the first of 1 to 12 that holds, or 0. (What a `let` binds is computed only where it is used: 9 to 12 only after 1 to 8, where N is small.)
 unfoldable pub imageRefusal : List ℕ → ℕ
 imageRefusal b = let later = bodyRefusal b in firstRefusal (headerRefusal b) later
 
--- The check answers the number of pairs, which is that of the ends, or a refusal and 0.
+-- a slot that is the end of a key, and the number of such slots
 unfoldable pub isEnd : List ℕ → ℕ → Bool
 isEnd b s = isUsedFrom2 b s && isLeaf b s
 
 unfoldable pub endCount : List ℕ → ℕ
 endCount b = countBelow (slotCount b) (isEnd b)
 
--- what is answered where nothing is refused, and what otherwise
+-- the answer if nothing is refused, and the other one if something is
 unfoldable pub unlessRefused {ℓ} : {A : Type ℓ} → ℕ → A → A → A
 unlessRefused zero answer other = answer
 unlessRefused (suc k) answer other = other
 
+-- The check answers the number of pairs in the set of which the bytes are an image, or a refusal and 0. (Each pair has one end.)
+-- Bytes pass it, and an image is accepted, when it answers no refusal.
 unfoldable pub checkOf : List ℕ → Verdict
 checkOf b = let pairs = endCount b in record { refusal = imageRefusal b; pairs = unlessRefused (imageRefusal b) pairs 0 }

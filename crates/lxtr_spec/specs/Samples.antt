@@ -1,4 +1,4 @@
--- The images among document 01's examples, and key lists by their keys.
+-- The images of document 01's examples, and the key list of given keys.
 use Prim.Native.Nat.{ℕ}
 use mathlib.Core.List.{List, [], _∷_, _++_}
 use lib.ListN.{length, set}

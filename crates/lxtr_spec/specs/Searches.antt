@@ -18,6 +18,8 @@ queryRefusal q = refuseIf (not (eqb (length q % 4) 0)) 13 0
 unfoldable pub searchRefusal : List ℕ → List ℕ → ℕ
 searchRefusal b q = firstRefusal (headerRefusal b) (queryRefusal q)
 
+-- Refusals answer zero, no value, an empty part, and write nothing in lent room. Each answer below says so by `unlessRefused`.
+
 -- Exact: the value number or none; beyond 64 labels, none.
 pub record ExactAnswer : Type 0 where
   pub refusal : ℕ
@@ -31,7 +33,7 @@ exactOf b q =
     let value = exactValue b (labelsOf q) in
     record { refusal = searchRefusal b q; value = unlessRefused (searchRefusal b q) value none }
 
--- Prefixes: length and value of each prefix of xs to which f gives a value, shortest first; matchAt is what length k gives.
+-- Prefixes: length and value, shortest first, of each prefix of xs to which f gives a value. matchAt gives the match of length k, if any.
 unfoldable pub lengthMatch : ℕ → Option ℕ → List (ℕ × ℕ)
 lengthMatch k none = []
 lengthMatch k (some v) = (k, v) ∷ []
@@ -46,7 +48,7 @@ matches f xs = concatFrom (length xs + 1) 0 (matchAt f xs)
 unfoldable pub prefixMatches : List ℕ → List ℕ → List (ℕ × ℕ)
 prefixMatches b q = matches (valueOf b) (take maxLabels (labelsOf q))
 
--- a count and 65 places, one for each possible length from 0 to 64; unused places zero
+-- a count and 65 places, one for each possible length from 0 to 64; length and value, shortest first, unused places zero
 abbrev pub padded : List ℕ → List ℕ
 padded xs = xs ++ replicate (lengthCount - length xs) 0
 
@@ -62,7 +64,8 @@ prefixesAnswer k ms = record { refusal = k; count = length ms; lengths = padded 
 unfoldable pub prefixesOf : List ℕ → List ℕ → Prefixes
 prefixesOf b q = let ms = prefixMatches b q in prefixesAnswer (searchRefusal b q) (unlessRefused (searchRefusal b q) ms [])
 
--- Longest: the matched front part of the caller's query, the longest that Prefixes reports; empty if none.
+-- Longest: the matched front part of the caller's query, the longest that Prefixes reports, handed back as a part of that query;
+-- empty if none.
 pub record LongestAnswer : Type 0 where
   pub refusal : ℕ
   pub part : List ℕ

@@ -1,4 +1,4 @@
--- Document 01, "When bytes are an image of a set of pairs". It speaks of prefixes and their slots, and of no refusal.
+-- Document 01, "When bytes are an image of a set of pairs". These definitions do not use the refusals.
 use Prim.Native.Nat.{ℕ, _+_, _*_, _≤_, _<_}
 use mathlib.Core.Path.{_≡_}
 use mathlib.Core.Logic.{_≢_, _↔_, _⊎_}
@@ -10,8 +10,8 @@ use Rattle.lxtr_spec.specs.Numbers.{byteAt}
 use Rattle.lxtr_spec.specs.Labels.{isScalar, maxLabels, valueLimit, minSlots, maxSlots, maxListed}
 use Rattle.lxtr_spec.specs.Image.{magic, version, slotCount, childCount, mapLength, imageLength, baseWord, checkWord, isLeaf, hasLeaf, parent, base, valueNumber, slotFrom, codeTo, offset, child, mapVersion, labelCount, labelAt, labelOfCode}
 
--- A set of pairs that holds each key once: it gives each of its keys a value number, and any other list of labels none.
--- Two such sets are equal when they give every list the same.
+-- The set holds each key once: it gives each of its keys a value number, and any other list of labels none.
+-- Two such sets are equal when they give every list the same answer.
 abbrev pub PairSet : Type 0
 PairSet = List ℕ → Option ℕ
 
@@ -19,7 +19,7 @@ PairSet = List ℕ → Option ℕ
 abbrev pub Has : PairSet → List ℕ → ℕ → Type 0
 Has d k v = d k ≡ some v
 
--- p is a prefix of a key: the empty one always, and whole keys
+-- each prefix of each key (the empty one always, and whole keys)
 pub record Prefix (d : PairSet) (p : List ℕ) : Type 0 where
   pub is : (p ≡ []) ⊎ ((r : List ℕ) × (v : ℕ) × Has d (p ++ r) v)
 
@@ -35,23 +35,27 @@ pub record Framed (b : List ℕ) : Type 0 where
   pub version-is : version b ≡ 3
   pub reserved : (i : ℕ) → ((5 ≤ i) × (i < 8)) ⊎ ((20 ≤ i) × (i < 24)) → byteAt b i ≡ 0
   pub slots : (minSlots ≤ slotCount b) × (slotCount b ≤ maxSlots)
+  -- E is at most N-2,
   pub children : childCount b + 2 ≤ slotCount b
+  -- Length = 24 + 8N + 4(N+1) + 4E + M.
   pub size : length b ≡ imageLength b
   pub map-version : mapVersion b ≡ 1
   pub labels : labelCount b ≤ maxListed
+  -- M = 5 + 4L.
   pub map-size : mapLength b ≡ 5 + 4 * labelCount b
+  -- the listed labels are distinct scalar values.
   pub scalar : (i : ℕ) → i < labelCount b → isScalar (labelAt b i) ≡ true
   pub distinct : (i j : ℕ) → i < labelCount b → j < labelCount b → labelAt b i ≡ labelAt b j → i ≡ j
 
--- A key has 0 to 64 labels, a value number is below 2^31, and every label of the keys is listed.
+-- A key has 0 to 64 labels. A value number is below 2^31. Every label of its keys is listed.
 pub record KeysFit (b : List ℕ) (d : PairSet) : Type 0 where
   pub key-length : (k : List ℕ) (v : ℕ) → Has d k v → length k ≤ maxLabels
   pub key-value : (k : List ℕ) (v : ℕ) → Has d k v → v < valueLimit
   pub key-label : (p : List ℕ) (x : ℕ) (r : List ℕ) (v : ℕ) → Has d (p ++ x ∷ r) v → (c : ℕ) × Listed b x c
 
--- Give a slot to each prefix of each key, and one further slot to each key's end.
+-- Give a slot to each prefix of each key (the empty one always, and whole keys), and one further slot to each key's end;
 pub record Placed (b : List ℕ) (d : PairSet) (slot end : List ℕ → ℕ) : Type 0 where
-  -- No two share one.
+  -- no two share one.
   pub slots-differ : (p q : List ℕ) → Prefix d p → Prefix d q → slot p ≡ slot q → p ≡ q
   pub ends-differ : (k l : List ℕ) (v w : ℕ) → Has d k v → Has d l w → end k ≡ end l → k ≡ l
   pub slot-no-end : (p k : List ℕ) (v : ℕ) → Prefix d p → Has d k v → slot p ≢ end k

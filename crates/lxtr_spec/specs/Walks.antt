@@ -1,4 +1,4 @@
--- Document 01, "The searches": the walk that they share. It goes over any image that passed 1 to 8, accepted or not.
+-- Document 01, "The searches": the walk that they share.
 use Prim.Native.Nat.{ℕ}
 use mathlib.Core.List.{List, [], _∷_}
 use mathlib.Core.Option.{Option, some, none}
@@ -16,12 +16,12 @@ step b n c = let t = slotFrom b n c in cond (not (isLeaf b n) && hasParent b t n
 unfoldable pub stepBy : List ℕ → ℕ → ℕ → Option ℕ
 stepBy b n x = elim (codeOf b x) [ none ↦ none | some c ↦ step b n c ]
 
--- the slot that the labels reach from slot n
+-- The others walk any image that passed so far (1 to 8 and 13), accepted or not: the slot that the labels reach from slot n.
 unfoldable pub walk : List ℕ → ℕ → List ℕ → Option ℕ
 walk b n [] = some n
 walk b n (x ∷ xs) = elim (stepBy b n x) [ none ↦ none | some t ↦ walk b t xs ]
 
--- the slot that at most 64 labels reach from slot 1
+-- the slot that at most 64 labels reach from slot 1; beyond 64 labels, none
 unfoldable pub walkWithin : List ℕ → List ℕ → Option ℕ
 walkWithin b xs = cond (ltb maxLabels (length xs)) none (walk b 1 xs)
 
@@ -37,7 +37,7 @@ unfoldable pub valueReached : List ℕ → Option ℕ → Option ℕ
 valueReached b none = none
 valueReached b (some n) = valueAt b n
 
--- the value of these labels, however many they are
+-- the value of these labels, of any number
 unfoldable pub valueOf : List ℕ → List ℕ → Option ℕ
 valueOf b xs = valueReached b (walk b 1 xs)
 

@@ -1,7 +1,7 @@
-// The answers, the limits and the refusals of LXTR tools. What they mean is said in specs/, which holds document 01 as definitions.
+// The answer types, the limits and the refusal numbers. Their meaning is defined in specs/, which holds document 01 as definitions.
 pub mod refusals; // the number of each refusal
 
-// A key has at most so many labels; from this limit follows the number of possible lengths.
+// The largest number of labels in a key, and the number of possible lengths that follows from it.
 pub const MAX_LABELS: usize = 64;
 
 pub const LENGTH_COUNT: usize = MAX_LABELS + 1;
@@ -26,7 +26,7 @@ pub enum Found {
 
 // In each answer below `refusal` is a number of `refusals`, or 0 for none.
 
-// The check: how many pairs the image's set has.
+// The check: the number of pairs in the image's set.
 pub struct Verdict {
     pub refusal: u8,
     pub pairs: u32,
@@ -40,11 +40,11 @@ pub enum Fault {
     Label(u32),
     // 10: the slot
     Slot(u32),
-    // 11: the slot whose list ends before it begins
+    // 11: the slot whose list ends before it begins: its offset is above the next one
     Offset(u32),
-    // 11: the slot whose list it is, and the entry's place in the children array
+    // 11: the slot whose list has the wrong entry, and the entry's place in the children array
     Entry(u32, u32),
-    // 11: a used slot from 2 up that no list has
+    // 11: a used slot from 2 up that is in no list
     Unlisted(u32),
     // 11: a used slot from 2 up that is no leaf and has no child
     Childless(u32),
@@ -75,14 +75,14 @@ pub struct Probe {
     pub longer: bool,
 }
 
-// The completions: how many were written, and whether one had no room.
+// The completions: how many were written, and whether the listing stopped for lack of room.
 pub struct Completion {
     pub refusal: u8,
     pub count: u32,
     pub stopped: bool,
 }
 
-// The builder: how many bytes the image has.
+// The builder: the length of the image in bytes.
 pub struct Built {
     pub refusal: u8,
     pub length: u32,

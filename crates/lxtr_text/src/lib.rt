@@ -1,5 +1,5 @@
-// Text put behind the bytes of a lent line, as far as the line goes: numbers, labels as characters, and forms, which are text with marks
-// for numbers. Any caller may use `forms::fill`; the other functions are for the crates above.
+// Text appended to a lent line, as much as fits: numbers, labels as characters, and forms, which are text with marks for numbers.
+// Any caller may use `forms::fill`; the other functions are for the crates above.
 pub mod appending; // bytes behind those in the line
 pub mod numerals; // numbers
 pub mod characters; // labels as text

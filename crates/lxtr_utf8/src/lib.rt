@@ -1,5 +1,6 @@
-// Text in UTF-8 (RFC 3629) as labels: how many it has, and the labels written into lent room as a query has them; and the byte order mark
-// at its front. Nothing is assumed of the text. That the order of labels is the order of the bytes, and that there is one reading of a text, is in specs/.
+// The labels of a text in UTF-8 (RFC 3629): how many there are, and the labels written into lent room, as in a query. Also the byte order
+// mark at the front of a text. Nothing is assumed about the text. specs/ proves that a text has one reading, and that the order of texts
+// by bytes is their order by labels.
 mod characters; // the character that a text begins with
 
 ghost use mathlib.Core.Path.{_≡_};

@@ -1,5 +1,5 @@
-// The walk over an image that passed refusals 1 to 8: one step, the walk of a query, and what is found where it ends; and the refusals
-// that come before it. The functions are for the searches above: all but `search_refusal` require what its answer 0 leaves known.
+// The walk over an image that passed refusals 1 to 8: one step, the walk of a query, and what is found at its end; and the refusals that
+// come before it. The functions are for the searches above. All but `search_refusal` require what its answer 0 guarantees.
 ghost use mathlib.Core.Path.{_≡_};
 ghost use Prim.Native.Nat.{_<_};
 ghost use Rattle.lxtr_spec.specs.Labels.{labelsOf};
