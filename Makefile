@@ -1,10 +1,10 @@
 # `make` proves and builds the inspector's command and shows it on a sample; `make test` is the gate.
 .PHONY: run list examples archive host crosscheck bench lessons command test
 
-# What a proof or a compiler says goes to a log, and is shown only where it fails.
+# The output of a proof or a compiler goes to a log, and is shown only if it fails.
 quietly = @mkdir -p target; $(1) > target/make.log 2>&1 || { cat target/make.log; exit 1; }
 
-# The command, and with it the image of the sample key list: built, checked and listed.
+# The command, shown on a sample: the image of a key list is built, checked and listed.
 run:
 	$(call quietly,rt check lxtr)
 	target/bin/lxtr build samples/goods.keys target/goods.img

@@ -1,4 +1,4 @@
-//! The archive's C functions, with slices for pointers and lengths.
+//! The archive's C functions, called with slices instead of pointers and lengths.
 
 use crate::functions::{
     lxtr_build, lxtr_check, lxtr_complete, lxtr_exact, lxtr_longest, lxtr_prefixes, lxtr_probe,

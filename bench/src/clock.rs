@@ -4,7 +4,7 @@
 use std::ffi::{c_int, c_long};
 use std::time::Duration;
 
-/// C's `struct timespec` and the thread's clock, on x86-64 Linux as the archive is.
+/// C's `struct timespec` and the clock of the thread, for x86-64 Linux like the archive.
 #[repr(C)]
 #[derive(Default)]
 struct TimeSpec {

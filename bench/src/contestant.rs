@@ -1,16 +1,16 @@
-//! Contestants: each answers the same calls, in its own way and its own lent memory.
+//! Contestants: each answers the same calls, in its own way and with its own lent memory.
 
 use crate::clock::thread_time;
 use crate::dictionary::Dictionary;
 use std::hint::black_box;
 use std::time::Duration;
 
-/// A pass over fewer calls than all has at least so many, to be a fair sample.
+/// A pass that does not make all calls makes at least this many, to be a fair sample.
 const SAMPLE: usize = 20;
-/// Calls on which a contestant is compared that takes long for each.
+/// The number of calls on which a slow contestant is compared.
 const FEW: usize = 64;
 
-/// One call: of a dictionary, and with a query where there is one.
+/// One call: the dictionary that it is about, and the query, if there is one.
 #[derive(Clone, Copy)]
 pub struct Call<'a> {
     pub of: &'a Dictionary,
@@ -29,25 +29,25 @@ pub trait Contestant {
     fn name(&self) -> &'static str;
     /// On how many of the calls it is compared.
     fn compared(&self) -> usize;
-    /// The query of the call of that number.
+    /// The query of call `at`.
     fn query(&self, at: usize) -> &[u8];
-    /// Answers that call.
+    /// Answers call `at`.
     fn answer(&mut self, at: usize) -> u64;
     fn lent(&self) -> &Lent;
-    /// Sets how many calls a pass makes.
+    /// Sets how many calls a pass makes, so that it takes about this long.
     fn prepare(&mut self, pass: Duration);
     /// The time of one pass and its number of calls.
     fn pass(&mut self) -> (Duration, usize);
 }
 
-/// A contestant that answers by a function.
+/// A contestant that answers by calling a function.
 pub struct By<'a, F> {
     name: &'static str,
     calls: Vec<Call<'a>>,
     lent: Lent,
     answer: F,
     compared: usize,
-    /// A pass answers this many calls from the front, this many times.
+    /// A pass makes the first `sample` calls, `rounds` times.
     sample: usize,
     rounds: usize,
 }

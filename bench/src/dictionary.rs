@@ -8,12 +8,12 @@ use crosscheck::common::big_endian;
 use crosscheck::keylist::{self, Key};
 use std::collections::HashSet;
 
-/// The work with which the builder has all slots.
+/// Work words that allow the builder all slots.
 pub const WORK_WORDS: usize = 131_072;
-/// The largest image that there is.
+/// The size of the largest image in bytes.
 pub const IMAGE_BYTES: usize = 1_064_981;
 
-/// Where an image's header has the number of slots, and of used ones from 2 up.
+/// Where the header of an image has the number of slots, and of used slots from 2 up.
 const SLOTS_AT: usize = 8;
 const EDGES_AT: usize = 12;
 
@@ -34,12 +34,12 @@ impl Dictionary {
         Ok(Dictionary { keys, list, image, parsed })
     }
 
-    /// Bytes of room in which all pairs can be listed.
+    /// Bytes of room that are enough to list all pairs.
     pub fn room(&self) -> usize {
         5 + self.keys.iter().map(|key| 5 + 4 * key.len()).sum::<usize>()
     }
 
-    /// Its sizes in a line.
+    /// Its sizes, as a line of text.
     pub fn describe(&self) -> String {
         let labels: usize = self.keys.iter().map(Vec::len).sum();
         let listed: HashSet<u32> = self.keys.iter().flatten().copied().collect();

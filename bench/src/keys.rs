@@ -1,5 +1,6 @@
-//! Generated hiragana readings. In length, in the skew of their labels and in how
-//! many front parts they share they resemble the readings of a dictionary.
+//! Generated hiragana readings. They resemble the readings of a dictionary in
+//! their length, in how unevenly labels occur, and in how many front parts they
+//! share.
 
 use crate::random::Random;
 use crosscheck::keylist::Key;
@@ -51,7 +52,7 @@ impl Readings {
         keys
     }
 
-    /// `count` readings that are not in a list, which ascends.
+    /// `count` readings that are not in `list`, which ascends.
     pub fn others(&mut self, count: usize, list: &[Key]) -> Vec<Key> {
         let mut others = Vec::new();
         while others.len() < count {
@@ -63,7 +64,7 @@ impl Readings {
         others
     }
 
-    /// Two or three syllables, or a known reading and one more.
+    /// Two or three syllables, or a known reading with one syllable more.
     fn reading(&mut self, known: &[Key]) -> Key {
         loop {
             let goes_on = !known.is_empty() && self.random.one_in(4);

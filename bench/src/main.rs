@@ -1,10 +1,10 @@
-//! Measures the archive's functions beside the independent implementation, on
-//! generated dictionaries of three sizes. First all answers are compared.
+//! Times the archive's functions beside the independent implementation, on
+//! generated dictionaries of three sizes. Their answers are compared first.
 //!
 //!     bench [--quick]
 //!
-//! With --quick, the smallest dictionary and little measuring: to see that the
-//! program still works.
+//! With --quick, it takes only the smallest dictionaries and measures little:
+//! enough to see that the program still works.
 
 mod calls;
 mod clock;

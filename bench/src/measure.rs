@@ -1,4 +1,4 @@
-//! Compares the answers of contestants, and times them by turns.
+//! Compares the answers of contestants, and times them in turn.
 
 use crate::contestant::Contestant;
 use crosscheck::common::labels_in;
@@ -7,11 +7,11 @@ use std::time::{Duration, Instant};
 /// How much measuring is done.
 #[derive(Clone, Copy)]
 pub struct Effort {
-    /// Sweeps, of which the least time counts.
+    /// The number of sweeps. The least time of them counts.
     pub sweeps: usize,
     /// About how long one pass takes.
     pub pass: Duration,
-    /// After this much of an operation no sweep begins, once there were two.
+    /// Once an operation has taken this long, no further sweep begins; there are at least two.
     pub operation: Duration,
 }
 
@@ -25,7 +25,7 @@ impl Effort {
 pub type Contestants<'a> = Vec<Box<dyn Contestant + 'a>>;
 
 /// Compares all contestants with the first one, in each answer and all lent
-/// memory. Gives how many comparisons there were, or what differs.
+/// memory. Returns how many comparisons there were, or what differs.
 pub fn compare(contestants: &mut Contestants) -> Result<usize, String> {
     let (first, others) = contestants.split_first_mut().expect("there is a contestant");
     let mut compared = 0;
@@ -53,7 +53,7 @@ fn text(query: &[u8]) -> String {
 }
 
 /// The least time of a call in seconds, for each contestant. They take turns, and
-/// a pass that is not timed goes before each timed one.
+/// before each timed pass there is one that is not timed.
 pub fn times(contestants: &mut Contestants, effort: Effort) -> Vec<f64> {
     contestants.iter_mut().for_each(|contestant| contestant.prepare(effort.pass));
     let mut least = vec![f64::INFINITY; contestants.len()];

@@ -1,6 +1,6 @@
 //! The operations that are measured, and the contestants of each: the product's
 //! function, the Rust function from the same bytes to the same answer, and that
-//! function over an image parsed before.
+//! function over an image that is already parsed.
 
 use crate::calls;
 use crate::contestant::{By, Call, Lent};
@@ -41,7 +41,7 @@ impl Operation {
         Operation::Build,
     ];
 
-    /// The operation, and what a call is.
+    /// The operation, and what one call does.
     pub fn title(self) -> &'static str {
         match self {
             Operation::Check => "check: a call checks the image",
@@ -147,7 +147,7 @@ fn complete<'a>(on: &'a Workload, prefixes: Vec<&'a [u8]>) -> Contestants<'a> {
     )
 }
 
-/// Without the third contestant: there is no image before.
+/// Has no third contestant, because there is no image to parse beforehand.
 fn build(on: &Workload) -> Contestants<'_> {
     two(
         &in_turn(on, vec![&[]; on.dictionaries.len()]),
@@ -181,12 +181,12 @@ fn three<'a>(
     contestants
 }
 
-/// A call of the first dictionary for each query.
+/// A call on the first dictionary for each query.
 fn searches<'a>(on: &'a Workload, queries: Vec<&'a [u8]>) -> Vec<Call<'a>> {
     queries.into_iter().map(|query| Call { of: &on.dictionaries[0], query }).collect()
 }
 
-/// A call for each query, to the dictionaries in turn.
+/// A call for each query, on the dictionaries in turn.
 fn in_turn<'a>(on: &'a Workload, queries: Vec<&'a [u8]>) -> Vec<Call<'a>> {
     let dictionaries = on.dictionaries.iter().cycle();
     queries.into_iter().zip(dictionaries).map(|(query, of)| Call { of, query }).collect()

@@ -1,4 +1,4 @@
-//! The independent implementation over an image that it parsed before: the
+//! The independent implementation over an image that is already parsed: the
 //! functions of `crosscheck::answers` without their first step.
 
 use crosscheck::check::accept;
@@ -38,7 +38,7 @@ impl Parsed {
         self.0.longest(RULES, &labels_in(query)) as u64
     }
 
-    /// `places` has the words of all 65 places.
+    /// `places` has the words for all 65 places.
     pub fn prefixes(&self, query: &[u8], places: &mut [u32]) -> u64 {
         let matches = self.0.prefixes(RULES, &labels_in(query));
         places.fill(0);
@@ -58,7 +58,7 @@ impl Parsed {
         more + u64::from(completed.count)
     }
 
-    /// The answer that 9 to 12 give, if one of them does.
+    /// The answer for the first of refusals 9 to 12 that holds, if one does.
     fn refusal(&self) -> Option<u64> {
         accept(RULES, &self.0).err().map(|Refusal(number)| u64::from(number) << 40)
     }

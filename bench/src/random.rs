@@ -29,7 +29,7 @@ impl Random {
         &from[self.below(from.len())]
     }
 
-    /// One of the items, the earlier the likelier: the least of `draws` draws.
+    /// One of the items, the earlier ones more likely: the smallest index of `draws` draws.
     pub fn pick_early<T: Copy>(&mut self, from: &[T], draws: usize) -> T {
         let least = (0..draws).map(|_| self.below(from.len())).min();
         from[least.expect("there is a draw")]

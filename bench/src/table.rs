@@ -7,8 +7,8 @@ pub struct Row {
     pub keys: usize,
     /// What the throughput counts, and how much of it a call handles.
     pub amount: (&'static str, f64),
-    /// Seconds for a call: product, Rust, and Rust with the image parsed before if
-    /// there is such.
+    /// Seconds for a call: the product, Rust, and Rust with the image already
+    /// parsed, if that was measured.
     pub times: Vec<f64>,
 }
 
@@ -106,7 +106,7 @@ fn ratio(ratio: f64) -> String {
     }
 }
 
-/// A number with a comma before each three digits.
+/// A number with a comma before each group of three digits.
 pub fn grouped(number: usize) -> String {
     match number {
         ..1_000 => number.to_string(),

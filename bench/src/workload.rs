@@ -1,9 +1,9 @@
-//! What is asked of dictionaries of one size.
+//! The calls that are made on dictionaries of one size.
 //!
-//! A processor learns the branches of a short run that comes again and again, and
-//! small dictionaries would look better than they are. So there are equally many
-//! queries for every size, and several small dictionaries: together they have as
-//! many keys as a large one.
+//! A processor learns the branches of a short run that is repeated, so small
+//! dictionaries would look faster than they are. Therefore every size has the
+//! same number of queries, and there are several small dictionaries, which
+//! together have as many keys as a large one.
 
 use crate::dictionary::Dictionary;
 use crate::keys::Readings;
@@ -11,16 +11,16 @@ use crate::random::Random;
 use crosscheck::common::query_of;
 use crosscheck::keylist::Key;
 
-/// The dictionaries have this seed and those behind it.
+/// The seed of the first dictionary; the others have the seeds after it.
 const KEY_SEED: u64 = 1_000;
 const OTHER_SEED: u64 = 1;
 const QUERY_SEED: u64 = 2;
 
-/// Keys of all dictionaries together, and queries of each search.
+/// The number of keys of all dictionaries together, and of queries of each search.
 const TOTAL: usize = 20_000;
-/// Labels of a text, at least.
+/// The least number of labels of a text.
 const TEXT_LABELS: usize = 32;
-/// Prefixes of all dictionaries together that are completed, and their labels.
+/// The number of prefixes that are completed, over all dictionaries, and of labels of each.
 const PREFIXES: usize = 20;
 const PREFIX_LABELS: usize = 2;
 
@@ -28,13 +28,13 @@ pub struct Workload {
     pub dictionaries: Vec<Dictionary>,
     /// Queries to the first dictionary: keys of it.
     pub present: Vec<Vec<u8>>,
-    /// Other readings.
+    /// Readings that are not keys of it.
     pub absent: Vec<Vec<u8>>,
     /// Front parts of keys, as they are typed label by label.
     pub typed: Vec<Vec<u8>>,
-    /// Keys joined to texts.
+    /// Texts of keys joined together.
     pub texts: Vec<Vec<u8>>,
-    /// Prefixes of keys, of each dictionary in turn.
+    /// Prefixes of keys, taken from each dictionary in turn.
     pub prefixes: Vec<Vec<u8>>,
 }
 
@@ -57,7 +57,7 @@ impl Workload {
         })
     }
 
-    /// The queries of a search in texts: from each position to the text's end.
+    /// The queries of a search in texts: from each position to the end of the text.
     pub fn positions(&self) -> Vec<&[u8]> {
         let positions = |text: &'_ Vec<u8>| (0..text.len()).step_by(4);
         let behind = self.texts.iter().flat_map(|text| positions(text).map(|at| &text[at..]));

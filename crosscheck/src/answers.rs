@@ -61,7 +61,7 @@ pub fn longest(rules: Rules, image: &[u8], query: &[u8]) -> u64 {
     number(search::longest(rules, image, query), |front| front.len() as u64 / 4)
 }
 
-/// `places` holds the front of 65 pairs of length and value, as far as it goes.
+/// Writes the 65 pairs of length and value into `places`, as many words as fit.
 pub fn prefixes(rules: Rules, image: &[u8], query: &[u8], places: &mut [u32]) -> u64 {
     let found = search::prefixes(rules, image, query);
     if found.is_err() && rules.breaks(Wrong::PlacesClearedByRefusal) {

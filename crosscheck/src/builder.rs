@@ -7,7 +7,7 @@ use crate::rules::{Rules, Wrong};
 use std::cmp::Reverse;
 use std::collections::{BTreeMap, BTreeSet, HashMap, VecDeque};
 
-/// Builds into `out` and leaves `work` as document 01 says; answers the image's length.
+/// Builds into `out`, and leaves `work` as document 01 says. Returns the length of the image.
 pub fn build(
     rules: Rules,
     list: &[u8],
@@ -27,7 +27,7 @@ pub fn build(
     built
 }
 
-/// Refusal 23, or the image at the front of the output.
+/// Writes the image to the front of the output, or gives refusal 23.
 fn deliver(rules: Rules, image: &[u8], out: &mut [u8]) -> Result<usize, Refusal> {
     let needed = image.len() + rules.either(0, Wrong::OutputWantsSpareByte, 1);
     if out.len() < needed {
@@ -43,7 +43,7 @@ fn deliver(rules: Rules, image: &[u8], out: &mut [u8]) -> Result<usize, Refusal>
     Ok(image.len())
 }
 
-/// The image of a key list with work of `words` words; every refusal but 23.
+/// The image of a key list, built with work of `words` words. Gives every refusal but 23.
 pub fn image_of(rules: Rules, list: &[u8], words: usize) -> Result<Image, Refusal> {
     refuse_if(words < rules.either(4, Wrong::WorkLimit3, 3), 21)?;
     let keys = keylist::parse(rules, list)?;
@@ -60,7 +60,7 @@ pub fn image_of(rules: Rules, list: &[u8], words: usize) -> Result<Image, Refusa
     Ok(image)
 }
 
-/// The used labels in the order of their codes.
+/// The used labels in code order.
 fn labels_by_frequency(rules: Rules, keys: &[Key]) -> Vec<u32> {
     let mut frequency: HashMap<u32, usize> = HashMap::new();
     for key in keys {
@@ -84,7 +84,7 @@ enum Below {
     Inner { id: usize },
 }
 
-/// The codes below each inner place; the first place is the empty prefix.
+/// For each prefix, the codes that follow it; the first prefix is the empty one.
 struct Trie {
     inner: Vec<BTreeMap<u32, Below>>,
 }
@@ -113,7 +113,7 @@ impl Trie {
     }
 }
 
-/// Gives every place its slot; the nodes end with the highest taken slot.
+/// Gives every prefix and every end its slot. The nodes end with the highest taken slot.
 fn place(rules: Rules, trie: &Trie, slots: usize) -> Option<Vec<Node>> {
     let mut free = FreeSlots::new(rules, slots);
     let mut nodes = vec![Node::default(); 2];
@@ -123,7 +123,7 @@ fn place(rules: Rules, trie: &Trie, slots: usize) -> Option<Vec<Node>> {
         let codes: Vec<u32> = below.keys().copied().collect();
         let base = if codes.is_empty() { 0 } else { free.first_fit(rules, &codes)? };
         nodes[slot].base = base;
-        // In falling order, so that the smallest code comes off the back first.
+        // In falling order, so that the smallest code is popped from the back first.
         for (code, child) in below.iter().rev() {
             let taken = (base ^ code) as usize;
             free.take(taken);
@@ -141,7 +141,8 @@ fn place(rules: Rules, trie: &Trie, slots: usize) -> Option<Vec<Node>> {
     Some(nodes)
 }
 
-/// The place and slot to go into: the deepest one met last, before its siblings.
+/// The next prefix to place, and its slot: depth first, so a prefix's children
+/// come before its siblings.
 fn next_place(rules: Rules, ahead: &mut VecDeque<(usize, usize)>) -> Option<(usize, usize)> {
     if rules.breaks(Wrong::BreadthFirst) {
         return ahead.pop_front();
@@ -181,7 +182,7 @@ impl FreeSlots {
 
     /// The bases from 64 * `block` up, one bit each, for which all codes fit.
     /// Base 64b + i and code 64c + j meet in slot 64(b ^ c) + (i ^ j), so one
-    /// word of free slots, its bits moved by XOR, answers for all 64 bases.
+    /// word of free slots, with its bits moved by XOR, answers for all 64 bases.
     fn fitting(&self, rules: Rules, block: u32, codes: &[u32]) -> u64 {
         let from_1 = block == 0 && rules.breaks(Wrong::BaseFrom1);
         let mut fits = if from_1 { !1 } else { u64::MAX };

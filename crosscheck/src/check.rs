@@ -55,7 +55,7 @@ fn unused_right(rules: Rules, node: Node) -> bool {
     node.is_zero() || rules.breaks(Wrong::UnusedBaseIgnored) && node.check == 0
 }
 
-/// A used slot from 2 up against its parent.
+/// Whether a used slot from 2 up is right, given its parent.
 fn used_right(rules: Rules, image: &Image, slot: u32) -> bool {
     let parent = image.node(slot).parent();
     let inside = (parent as usize) < image.nodes.len();
@@ -69,7 +69,7 @@ fn used_right(rules: Rules, image: &Image, slot: u32) -> bool {
     used && code as usize <= codes && image.node(slot).is_leaf() == (code == 0)
 }
 
-/// For each slot, whether it is no leaf and the slot at its base has it as parent.
+/// For each slot, whether it is not a leaf and the slot at its base has it as parent.
 fn slots_with_end(image: &Image) -> Vec<bool> {
     let mut with_end = vec![false; image.nodes.len()];
     for (slot, node) in image.nodes.iter().enumerate() {
@@ -82,8 +82,9 @@ fn slots_with_end(image: &Image) -> Vec<bool> {
     with_end
 }
 
-/// With right slots the parents decide the lists, so these are made anew and
-/// compared: equal lists have E entries, each once, under its parent, by code.
+/// If the slots are right, the parents decide the lists. So the lists are made
+/// anew and compared: equal lists have E entries, each once, under its parent, by
+/// ascending code.
 fn lists_right(rules: Rules, image: &Image) -> bool {
     let expected = Lists::by_parent(image);
     let falls = image.lists.offsets.windows(2).any(|pair| pair[0] > pair[1]);
@@ -113,8 +114,9 @@ fn may_be_childless(rules: Rules, image: &Image, slot: u32) -> bool {
     }
 }
 
-/// Whether every used slot from 2 up reaches slot 1 in time. With right slots
-/// each chain of parents stays in used slots; it ends in slot 1 or in a cycle.
+/// Whether every used slot from 2 up reaches slot 1 within the limit. If the
+/// slots are right, each chain of parents stays in used slots and ends in slot 1
+/// or in a cycle.
 fn depths_right(rules: Rules, image: &Image) -> bool {
     let (unknown, on_chain) = (u32::MAX, u32::MAX - 1);
     let limit = rules.either(STEPS, Wrong::SixtySixSteps, 66);

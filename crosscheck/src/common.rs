@@ -1,22 +1,22 @@
 //! Limits, refusals and big-endian numbers, as every part of document 01 uses them.
 
-/// Labels in a key, at most.
+/// The most labels of a key.
 pub const KEY_LABELS: usize = 64;
-/// Labels listed in a code map, at most.
+/// The most labels that a code map lists.
 pub const LISTED_LABELS: usize = 4_095;
-/// Slots of an image, at most.
+/// The most slots of an image.
 pub const SLOTS: usize = 65_536;
-/// Keys of a key list, at most.
+/// The most keys of a key list.
 pub const KEYS: u32 = 32_768;
-/// Steps from an end to slot 1, at most: one for each label, one for the end.
+/// The most steps from an end to slot 1: one for each label, one for the end.
 pub const STEPS: u32 = 65;
 
 /// A refusal by its number in document 01.
 #[derive(Clone, Copy, Debug, PartialEq, Eq)]
 pub struct Refusal(pub u8);
 
-/// Refuses with `number` when `fault` holds. Written one after the other with
-/// `?`, such lines are document 01's order of refusals.
+/// Refuses with `number` if `fault` holds. Calls with `?`, one after the other,
+/// give document 01's order of refusals.
 pub fn refuse_if(fault: bool, number: u8) -> Result<(), Refusal> {
     if fault {
         Err(Refusal(number))
@@ -35,7 +35,7 @@ pub fn big_endian(bytes: &[u8]) -> u32 {
     u32::from_be_bytes([bytes[0], bytes[1], bytes[2], bytes[3]])
 }
 
-/// Labels of four bytes each; `bytes` is a multiple of four long.
+/// Labels of four bytes each; up to three bytes left over are ignored.
 pub fn labels_in(bytes: &[u8]) -> Vec<u32> {
     bytes.chunks_exact(4).map(big_endian).collect()
 }

@@ -7,14 +7,14 @@ use crate::rules::{Rules, Wrong};
 use crate::search::open;
 use std::cmp::Reverse;
 
-/// How many records were written, and whether one found no room.
+/// How many records were written, and whether one had no room.
 #[derive(Clone, Copy, Debug, Default, PartialEq, Eq)]
 pub struct Completed {
     pub count: u32,
     pub stopped: bool,
 }
 
-/// Refusals 1 to 8, 13, 9 to 12, 14; then the records.
+/// Gives the first of refusals 1 to 8, 13, 9 to 12 and 14, in this order, or writes the records.
 pub fn complete(
     rules: Rules,
     image: &[u8],
@@ -36,7 +36,7 @@ struct Records<'a> {
 }
 
 impl Records<'_> {
-    /// Writes a record if it has room; says whether the listing goes on.
+    /// Writes a record if it has room. Returns whether the listing continues.
     fn add(&mut self, rules: Rules, key: &[u32], value: u32) -> bool {
         let mut record = vec![key.len() as u8];
         record.extend(key.iter().chain(&[value]).flat_map(|number| number.to_be_bytes()));
@@ -61,7 +61,7 @@ impl Records<'_> {
     }
 }
 
-/// A step still to take: to this slot by this code, with so many labels before.
+/// A step still to take: to this slot by this code, after `before` labels.
 struct Step {
     slot: u32,
     code: u32,
@@ -69,7 +69,7 @@ struct Step {
 }
 
 impl Image {
-    /// Lists an accepted image into room of 5 bytes or more.
+    /// Lists the completions of a prefix of an accepted image into room of 5 bytes or more.
     pub fn complete(&self, rules: Rules, prefix: &[u32], room: &mut [u8]) -> Completed {
         let mut records = Records { room, filled: 5, completed: Completed::default() };
         let start = self.slot_of(rules, prefix).filter(|_| prefix.len() <= KEY_LABELS);
@@ -99,7 +99,7 @@ impl Image {
         self.misorder(rules, &mut ahead[from..]);
     }
 
-    /// Wrong orders; document 01 keeps the order as it is.
+    /// Puts the steps into the order of a wrong variant; document 01 keeps them as they are.
     fn misorder(&self, rules: Rules, pushed: &mut [Step]) {
         let end_first = pushed.last().is_some_and(|step| step.code == 0);
         if rules.breaks(Wrong::EndAfterLongerKeys) && end_first {

@@ -1,4 +1,4 @@
-//! P1 to P11 and the run examples of document 01, against this implementation.
+//! P1 to P11 and the run examples of document 01, as tests of this implementation.
 
 use crate::answers;
 use crate::builder::image_of;

@@ -15,7 +15,7 @@ pub struct Fault {
     pub place: u32,
 }
 
-/// None where the bytes are accepted, or refused by 1 to 8.
+/// None if the bytes are accepted, or refused by 1 to 8.
 pub fn fault(rules: Rules, bytes: &[u8]) -> Option<Fault> {
     let image = Image::parse(rules, bytes).ok()?;
     let Refusal(refusal) = accept(rules, &image).err()?;
@@ -43,7 +43,7 @@ fn wrong_label(rules: Rules, labels: &[u32]) -> Option<u32> {
     first(rules, (0..).zip(wrong).filter(|(_, wrong)| *wrong).map(|(place, _)| place))
 }
 
-/// The part of rule 11 and the place. Slots are right.
+/// The part of rule 11 that is broken, and the place. The slots are right.
 fn in_lists(rules: Rules, image: &Image) -> (u8, u32) {
     let pairs = image.lists.offsets.windows(2);
     let falling = (0..).zip(pairs).filter(|(_, pair)| pair[0] > pair[1]).map(|(slot, _)| slot);
@@ -68,12 +68,12 @@ fn in_lists(rules: Rules, image: &Image) -> (u8, u32) {
     first(rules, image.used_from_2().filter(lone)).map_or((5, 1), |slot| (4, slot))
 }
 
-/// The slot in whose list a place of the children lies, where offsets do not fall.
+/// The slot in whose list a place of the children lies. Offsets do not fall.
 fn owner(image: &Image, place: u32) -> u32 {
     image.lists.offsets.partition_point(|offset| *offset <= place) as u32 - 1
 }
 
-/// Whether the child at a place is none of its owner's, or its code is not above the one before.
+/// Whether the child at a place is not one of its owner's, or its code is not above the one before.
 fn entry_wrong(image: &Image, place: u32) -> bool {
     let (owner, child) = (owner(image, place), image.lists.children[place as usize]);
     let own = |slot: u32| image.nodes.get(slot as usize).is_some_and(|node| node.parent() == owner);

@@ -70,7 +70,7 @@ impl CodeMap {
         Ok(CodeMap::new(rules, words))
     }
 
-    /// The code of a label that is listed.
+    /// The code of a label, if it is listed.
     pub fn code(&self, label: u32) -> Option<u32> {
         self.codes.get(&label).copied()
     }
@@ -89,7 +89,7 @@ impl CodeMap {
     }
 }
 
-/// The three numbers of a header that gave none of 1 to 6.
+/// N, E and the start of the code map, from a header that passed 1 to 6.
 struct Header {
     slots: usize,
     edges: usize,
@@ -126,15 +126,15 @@ pub struct Lists {
 }
 
 impl Lists {
-    /// The list of a slot; empty where offsets fall or leave the children.
+    /// The list of a slot; empty if offsets fall or leave the children.
     pub fn of(&self, slot: u32) -> &[u32] {
         let at = slot as usize;
         let part = self.offsets[at] as usize..self.offsets[at + 1] as usize;
         self.children.get(part).unwrap_or_default()
     }
 
-    /// The lists that the parents in the nodes ask for: used slots from 2 up,
-    /// grouped by parent, by ascending code. Every parent lies below N.
+    /// The lists that follow from the parents in the nodes: used slots from 2 up,
+    /// grouped by parent, by ascending code. Every parent has to be below N.
     pub fn by_parent(image: &Image) -> Lists {
         let edge = |slot| (image.node(slot).parent(), image.code_of_slot(slot), slot);
         let mut edges: Vec<(u32, u32, u32)> = image.used_from_2().map(edge).collect();
@@ -150,7 +150,7 @@ impl Lists {
     }
 }
 
-/// An image that gave none of 1 to 8, or one to be written.
+/// An image that passed 1 to 8, or one to be written.
 #[derive(Clone, Debug, Default)]
 pub struct Image {
     pub nodes: Vec<Node>,
@@ -162,7 +162,7 @@ impl Image {
     /// Refusals 1 to 8.
     pub fn parse(rules: Rules, bytes: &[u8]) -> Result<Image, Refusal> {
         let header = Header::parse(rules, bytes)?;
-        // Behind 6 the map lies inside; only a sum in 32 bits can point past the end.
+        // After 6 the map lies inside; only a wrong sum in 32 bits can point past the end.
         let (front, map) = bytes.split_at_checked(header.map_at).ok_or(Refusal(7))?;
         let map = CodeMap::parse(rules, map)?;
         let words: Vec<u32> =
@@ -202,7 +202,7 @@ impl Image {
         (2..self.nodes.len() as u32).filter(|&slot| self.node(slot).parent() != 0)
     }
 
-    /// The code by which a used slot from 2 up hangs on its parent.
+    /// The code by which its parent reaches a used slot from 2 up.
     pub fn code_of_slot(&self, slot: u32) -> u32 {
         self.node(self.node(slot).parent()).low_base() ^ slot
     }

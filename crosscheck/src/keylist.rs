@@ -26,7 +26,7 @@ pub fn parse(rules: Rules, bytes: &[u8]) -> Result<Vec<Key>, Refusal> {
     Ok(keys)
 }
 
-/// The key in front, and the bytes behind it.
+/// The key at the front, and the bytes after it.
 fn first_key(rules: Rules, bytes: &[u8]) -> Result<(Key, &[u8]), Refusal> {
     let (&length, rest) = bytes.split_first().ok_or(Refusal(15))?;
     let length = usize::from(length);

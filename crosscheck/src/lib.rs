@@ -1,10 +1,10 @@
-//! LXTR images after document 01: a second implementation, which shares nothing
-//! with the proved one and is compared with it.
+//! LXTR images as document 01 defines them: a second implementation, which shares
+//! nothing with the proved one and is compared with it.
 //!
-//! It parses an image into owned vectors and works on those. Where document 01
-//! gives a sentence, this code often takes another way to the same answer: lists
-//! are rebuilt and compared, depths are memoised, walks are recorded as trails,
-//! and the first fit tries 64 bases at once.
+//! It parses an image into owned vectors and works on those. It often takes
+//! another way to an answer than the sentences of document 01: lists are rebuilt
+//! and compared, depths are memoised, walks are recorded as trails, and first fit
+//! tries 64 bases at once.
 //!
 //! Every function takes a [`rules::Rules`]. [`rules::Rules::DOCUMENT`] is document
 //! 01; any other value breaks exactly one of its rules, which the comparison

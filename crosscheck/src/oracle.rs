@@ -1,5 +1,5 @@
 //! "When bytes are an image of a set of pairs", read as a definition: finds the
-//! set by walking the nodes, then holds the bytes against every sentence of that
+//! set by walking the nodes, then compares the bytes with every sentence of that
 //! section. It shares nothing with refusals 9 to 12.
 
 use crate::common::{is_scalar, KEY_LABELS};
@@ -14,7 +14,7 @@ pub struct Pair {
     pub value: u32,
 }
 
-/// The set, in code order, of which an image that passed 1 to 8 is an image.
+/// The set, in code order, of which an image that passed 1 to 8 is an image, if there is one.
 pub fn set_of(image: &Image) -> Option<Vec<Pair>> {
     let labels = &image.map.labels;
     let different: BTreeSet<u32> = labels.iter().copied().collect();
@@ -26,7 +26,7 @@ pub fn set_of(image: &Image) -> Option<Vec<Pair>> {
     (words_agree(image, &slots) && lists_agree(image, &slots)).then_some(pairs)
 }
 
-/// The only set the bytes can be an image of: whatever slot 1 leads to.
+/// The only set the bytes can be an image of: everything that slot 1 leads to.
 fn candidate(image: &Image) -> Vec<Pair> {
     let mut below: HashMap<u32, Vec<u32>> = HashMap::new();
     for slot in 2..image.nodes.len() as u32 {
@@ -60,7 +60,7 @@ fn collect(
     }
 }
 
-/// What a slot is for. A prefix is known by the slot and code that lead to it.
+/// What a slot is for. A prefix is identified by the slot and code that lead to it.
 #[derive(Clone, Copy, PartialEq, Eq)]
 struct Given {
     parent: u32,
@@ -76,7 +76,7 @@ struct Slots {
 }
 
 impl Slots {
-    /// Gives the slot at `base XOR code`; none if it lies outside or is shared.
+    /// Gives out the slot at `base XOR code`; none if it lies outside or has another use.
     fn give(&mut self, image: &Image, given: Given) -> Option<u32> {
         let slot = image.node(given.parent).low_base() ^ given.code;
         let inside = (2..image.nodes.len()).contains(&(slot as usize));
@@ -98,7 +98,7 @@ fn slots_for(image: &Image, pairs: &[Pair]) -> Option<Slots> {
     Some(slots)
 }
 
-/// Whether every slot's two words are what the set wants; a prefix's base is free.
+/// Whether the two words of every slot are what the set requires; the base of a prefix is free.
 fn words_agree(image: &Image, slots: &Slots) -> bool {
     let empty_set = slots.given.len() == 1;
     let wanted = |slot: u32, node: Node| match slots.given.get(&slot) {

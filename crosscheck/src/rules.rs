@@ -26,7 +26,7 @@ impl Rules {
         !self.breaks(wrong)
     }
 
-    /// The right thing, unless `wrong` is the broken rule.
+    /// `right`, or `instead` if `wrong` is the broken rule.
     pub fn either<T>(self, right: T, wrong: Wrong, instead: T) -> T {
         if self.breaks(wrong) {
             instead

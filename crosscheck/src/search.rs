@@ -4,10 +4,10 @@ use crate::common::{labels_in, refuse_if, Refusal, KEY_LABELS};
 use crate::image::Image;
 use crate::rules::{Rules, Wrong};
 
-/// One key found in front of a query: its length in labels and its value number.
+/// A key found at the front of a query: its length in labels and its value number.
 pub type Match = (usize, u32);
 
-/// What probe answers of a key.
+/// What probe answers for a query.
 #[derive(Clone, Copy, Debug, Default, PartialEq, Eq)]
 pub struct Probe {
     pub value: Option<u32>,
@@ -78,7 +78,7 @@ impl Image {
         trail
     }
 
-    /// The slot after all labels.
+    /// The slot after all labels, if the walk gets there.
     pub fn slot_of(&self, rules: Rules, labels: &[u32]) -> Option<u32> {
         self.trail(rules, labels).get(labels.len()).copied()
     }

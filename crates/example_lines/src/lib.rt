@@ -1,13 +1,13 @@
 // Reads a line of the script of `run_examples`: the name of the command, its decimal numbers, and its bytes. Bytes are written as
-// hexadecimal numbers, two digits for each byte, with a space before each number. NUMBER*N means N times the number, NUMBER+N means N
-// numbers, each one more than the one before.
+// hexadecimal numbers, two digits for each byte, with a space before each number. NUMBER*N means the number N times, NUMBER+N
+// means N numbers, each one more than the one before.
 use lxtr_output::parts::behind;
 use lxtr_output::parts::byte_at;
 
 // Room for the bytes of a line, and for an image.
 pub const ROOM: usize = 32768;
 
-// The commands, each by its name as a number: its letters are the bytes, the last lowest.
+// The commands. Each is its name as a number: the letters are its bytes, the last one lowest.
 pub const IMAGE: u64 = 0x696D616765;
 
 pub const MORE: u64 = 0x6D6F7265;
@@ -47,14 +47,14 @@ pub struct Request {
     pub size: usize,
 }
 
-// A number, how many digits it is written with, and where the line goes on.
+// A number, how many digits it is written with, and where the line continues.
 struct Number {
     value: u64,
     digits: usize,
     next: usize,
 }
 
-// Numbers one after the other, of so many bytes each.
+// `count` numbers of `width` bytes each; each is `step` more than the one before.
 struct Series {
     is_read: bool,
     first: u64,
@@ -64,7 +64,7 @@ struct Series {
     next: usize,
 }
 
-// The bytes of a line, of which there are so many.
+// The bytes of a line: whether they could be read, and how many there are.
 struct Operand {
     is_read: bool,
     size: usize,
@@ -77,7 +77,7 @@ fn letter_value(c: u8) -> u64 {
     NO_DIGIT
 }
 
-// What a digit stands for; NO_DIGIT for anything else.
+// The value of a digit; NO_DIGIT for anything else.
 fn digit_value(c: u8, base: u64) -> u64 {
     if base == LETTERS {
         return letter_value(c);
@@ -91,7 +91,7 @@ fn digit_value(c: u8, base: u64) -> u64 {
     NO_DIGIT
 }
 
-// The number with one more digit; of a long one the front is lost.
+// The number with one more digit. A number that is too long loses its front.
 fn with_digit(value: u64, digit: u64, base: u64) -> u64 {
     let kept = value % 0x100000000000000;
     if base == 10 {
@@ -134,7 +134,7 @@ fn behind_space(line: &[u8], at: usize) -> usize {
     at
 }
 
-// Whether a hexadecimal number has whole bytes, and is not too long.
+// Whether a hexadecimal number of this many digits has whole bytes, and not too many.
 fn has_bytes(digits: usize) -> bool {
     (1 < digits) & (digits <= 14) & (digits % 2 == 0)
 }
@@ -163,7 +163,7 @@ fn read_series(line: &[u8], at: usize) -> Series {
     }
 }
 
-// Puts a byte at a place, and answers the next place, if there is room.
+// Writes a byte at `at`, if there is room. Returns the next position.
 fn push(bytes: &mut [u8; ROOM], at: usize, byte: u8) -> usize {
     if at < ROOM {
         bytes[at] = byte;
@@ -172,7 +172,7 @@ fn push(bytes: &mut [u8; ROOM], at: usize, byte: u8) -> usize {
     at
 }
 
-// Puts bytes at a place, and answers the next place.
+// Writes bytes at `at`. Returns the next position.
 pub fn put_bytes(to: &mut [u8; ROOM], at: usize, from: &[u8]) -> usize {
     let mut next = at;
     let mut i: usize = 0;
@@ -188,7 +188,7 @@ fn byte_of(number: u64, k: usize) -> u8 {
     ((number >> (8 * (k % 8)) as u32) % 256) as u8
 }
 
-// A number of so many bytes, the highest first; answers the next place.
+// Writes a number of `width` bytes, the highest first. Returns the next position.
 fn push_number(bytes: &mut [u8; ROOM], at: usize, number: u64, width: usize) -> usize {
     let mut next = at;
     let mut k = width;
@@ -211,7 +211,7 @@ fn push_series(bytes: &mut [u8; ROOM], at: usize, series: Series) -> usize {
     next
 }
 
-// Each turn passes at least two characters of the line.
+// Each turn reads at least two characters, so as many turns as the line has characters are enough.
 fn read_bytes(line: &[u8], at: usize, bytes: &mut [u8; ROOM]) -> Operand {
     let mut i = at;
     let mut size: usize = 0;
@@ -220,7 +220,7 @@ fn read_bytes(line: &[u8], at: usize, bytes: &mut [u8; ROOM]) -> Operand {
         left -= 1;
         if line.len() <= i {
             return Operand {
-                // where the room is full, bytes may be lost
+                // if the room is full, bytes may have been lost
                 is_read: size < ROOM,
                 size: size,
             };
@@ -241,7 +241,7 @@ fn read_bytes(line: &[u8], at: usize, bytes: &mut [u8; ROOM]) -> Operand {
     }
 }
 
-// How many decimal numbers stand behind a command's name.
+// How many decimal numbers follow the name of a command.
 fn number_count(command: u64) -> u8 {
     match command {
         SET => 1,
@@ -252,7 +252,7 @@ fn number_count(command: u64) -> u8 {
     }
 }
 
-// A decimal number, where there is to be one.
+// Reads a decimal number, if there is to be one.
 fn read_decimal(line: &[u8], at: usize, is_there: bool) -> Number {
     if is_there {
         return read_number(line, behind_space(line, at), 10);
@@ -264,7 +264,7 @@ fn read_decimal(line: &[u8], at: usize, is_there: bool) -> Number {
     }
 }
 
-// Reads a line; its bytes are put into the lent room.
+// Reads a line, and writes its bytes into the lent room.
 pub fn read_request(line: &[u8], bytes: &mut [u8; ROOM]) -> Request {
     let name = read_number(line, 0, LETTERS);
     let count = number_count(name.value);

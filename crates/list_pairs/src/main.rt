@@ -1,5 +1,5 @@
-// The listing program: reads a key list on standard input, builds its image and prints the completions of the empty prefix, a line
-// for each pair. What a line says is decided by `lxtr_lines`.
+// The listing program: reads a key list on standard input, builds its image and prints the completions of the empty prefix, a
+// line for each pair. What a line says is decided by `lxtr_lines`.
 ghost use mathlib.Core.Path.{_≡_};
 ghost use mathlib.Core.Bool.{true};
 ghost use Rattle.lxtr_lines.specs.Records.{isWholeRecord};
@@ -15,7 +15,7 @@ use lxtr_lines::record_end;
 use lxtr_spec::refusals::LIST_MALFORMED;
 use lxtr_text::LINE_ROOM;
 
-// The longest key list. One byte more is read, so that a longer input is known.
+// The longest key list. One byte more is read, so that a longer input is noticed.
 const INPUT_ROOM: usize = 32768;
 
 const WORK_WORDS: usize = 16384;
@@ -43,7 +43,7 @@ fn print_pair(listing: &[u8], at: usize)
     io::write_all(STDOUT_FILENO, &line[..length]);
 }
 
-// Prints the pairs of a listing. Each record of a listing lies whole in it: the test only keeps the reading within bounds.
+// Prints the pairs of a listing. Each record lies wholly in it; the test only makes the bounds provable.
 fn print_pairs(listing: &[u8], count: u32) {
     let mut at = HEAD_LENGTH;
     let mut i: u32 = 0;
@@ -81,7 +81,7 @@ fn list_keys(keys: &[u8]) {
     build_in(keys, &mut work, &mut out);
 }
 
-// The arrays become slices, of which a part can be lent.
+// Turns the arrays into slices, of which a part can be lent.
 fn build_in(keys: &[u8], work: &mut [u32; WORK_WORDS], out: &mut [u8; OUTPUT_ROOM]) {
     build_into(keys, work, out);
 }

@@ -19,7 +19,7 @@ use lxtr_output::print;
 use lxtr_spec::Fault;
 use lxtr_text::LINE_ROOM;
 
-// A slot, and the step to it from its parent.
+// Prints a slot, and the step to it from its parent.
 fn draw_slot(image: &[u8], fault: Fault, s: u32)
     requires { ⌜ Passed (now image) ⌝ }
     requires { ⌜ s < slotCount (now image) ⌝ }
@@ -42,7 +42,7 @@ fn draw_slots(image: &[u8], fault: Fault)
     }
 }
 
-// Entry j, which lies in the list of slot p.
+// Prints entry j, which lies in the list of slot p.
 fn draw_entry(image: &[u8], fault: Fault, p: u32, j: u32)
     requires { ⌜ Passed (now image) ⌝ }
     requires { ⌜ j < childCount (now image) ⌝ }
@@ -53,7 +53,7 @@ fn draw_entry(image: &[u8], fault: Fault, p: u32, j: u32)
     print(&line[..length]);
 }
 
-// The slot of an entry is looked for from that of the entry before on.
+// The search for the slot of an entry starts at the slot of the entry before it.
 fn draw_entries(image: &[u8], fault: Fault)
     requires { ⌜ Passed (now image) ⌝ }
 {
@@ -67,7 +67,7 @@ fn draw_entries(image: &[u8], fault: Fault)
     }
 }
 
-// What is refused, and where, above the graph.
+// Prints what is refused, and where, above the graph.
 fn draw_refusal(refusal: u8, fault: Fault) {
     print(b"  labelloc=t;\n  fontcolor=\"#E00000\";\n  label=\"");
     print_refusal(refusal);
@@ -78,7 +78,7 @@ fn draw_refusal(refusal: u8, fault: Fault) {
     print(b"\";\n");
 }
 
-// The last word stands behind #, which Graphviz passes over.
+// The last line begins with #, so that Graphviz ignores it.
 pub fn draw(image: &[u8]) {
     let refusal = lxtr_check::check(image).refusal;
     let fault = lxtr_fault::fault(image);

@@ -1,5 +1,5 @@
-// The inspector's command: checks, searches, lists, draws and builds LXTR images in files. It calls the proved operations and prints
-// their answers. The last line is one word, for scripts.
+// The inspector's command: checks, searches, lists, draws and builds LXTR images in files. It calls the proved operations and
+// prints their answers. The last line is one word, for scripts.
 mod makers; // build, keys
 mod draw; // draw
 
@@ -28,10 +28,10 @@ use lxtr_messages::print_usage;
 use lxtr_messages::say;
 use lxtr_utf8::decode;
 
-// Room for the labels of an argument: one of 4,096 bytes has no more than 4,096.
+// Room for the labels of an argument. It has at most 4,096 bytes, and so at most 4,096 labels.
 const QUERY_ROOM: usize = 16384;
 
-// A search for a word.
+// Runs the search that is asked for.
 fn search(image: &[u8], asked: Command, query: &[u8]) {
     match asked {
         Command::Exact => exact(image, query),
@@ -42,7 +42,7 @@ fn search(image: &[u8], asked: Command, query: &[u8]) {
     }
 }
 
-// A search for the first labels of a room.
+// Searches for the first `count` labels of a room.
 fn search_labels(image: &[u8], asked: Command, room: &[u8], count: usize)
     requires { ⌜ 4 * count ≤ length (now room) ⌝ }
 {
@@ -50,7 +50,7 @@ fn search_labels(image: &[u8], asked: Command, room: &[u8], count: usize)
     search(image, asked, &room[..size]);
 }
 
-// A search for the word that the third argument is.
+// Searches for the word that is the third argument.
 fn search_word(image: &[u8], asked: Command) {
     let mut word = io::buffer();
     let length = os::arg(3, &mut word);
@@ -69,7 +69,7 @@ fn search_word(image: &[u8], asked: Command) {
     search_labels(image, asked, &query, decoded.count);
 }
 
-// A command on the file that its first operand names.
+// Runs a command on the contents of the file that its first operand names.
 fn run_on(file: &[u8], asked: Command, operands: usize) {
     match asked {
         Command::Check => check(file),
@@ -114,7 +114,7 @@ fn run(asked: Command, operands: usize) {
     }
 }
 
-// How many arguments there are behind the program's name and the command's.
+// How many arguments follow the names of the program and of the command.
 fn operand_count() -> usize {
     let count = os::arg_count();
     if count < 2 {

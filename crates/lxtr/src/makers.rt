@@ -1,4 +1,4 @@
-// The commands that write files: build and keys. A file is written only when there is all that goes into it.
+// The commands that write files: build and keys. A file is written only once all of its contents are known.
 use lxtr_command_spec::LONG_WORD;
 use lxtr_command_spec::MANY_WORDS;
 use lxtr_command_spec::NOT_UTF8;
@@ -20,17 +20,17 @@ use lxtr_spec::MAX_KEYS;
 use lxtr_spec::MAX_LABELS;
 use lxtr_spec::MAX_SLOTS;
 
-// Work for the most slots that an image may have, two words for each.
+// Work for as many slots as an image may have, two words for each.
 const WORK_WORDS: usize = 2 * MAX_SLOTS;
 
-// Builds the image of a key list into the file that the third argument names.
+// Builds the image of a key list, and writes it to the file that the third argument names.
 pub fn build(keys: &[u8]) {
     let mut work = [0u32; WORK_WORDS];
     let mut out = [0u8; LARGEST_FILE];
     build_in(keys, &mut work, &mut out);
 }
 
-// The arrays become slices, of which a part can be lent.
+// Turns the arrays into slices, of which a part can be lent.
 fn build_in(keys: &[u8], work: &mut [u32; WORK_WORDS], out: &mut [u8; LARGEST_FILE]) {
     build_into(keys, work, out);
 }
@@ -59,13 +59,13 @@ fn print_problem(problem: u8, line: usize) {
     }
 }
 
-// Makes the key list of a text's words into the file that the third argument names.
+// Writes the key list of the words of a text to the file that the third argument names.
 pub fn keys(text: &[u8]) {
     let mut out = [0u8; LARGEST_FILE];
     list_in(text, &mut out);
 }
 
-// The array becomes a slice, of which a part can be lent.
+// Turns the array into a slice, of which a part can be lent.
 fn list_in(text: &[u8], out: &mut [u8; LARGEST_FILE]) {
     list_into(text, out);
 }

@@ -19,7 +19,7 @@ fn same_bytes(a: &[u8], b: &[u8]) -> bool
     true
 }
 
-// A command that takes from `fewest` to `most` operands, given so many.
+// The command, if `count` is one of the numbers of operands that it takes; otherwise WrongOperands.
 fn taking(command: Command, fewest: usize, most: usize, count: usize) -> Command
     ensures { λ r. ⌜ r ≡ taking command fewest most count ⌝ }
 {
@@ -29,7 +29,7 @@ fn taking(command: Command, fewest: usize, most: usize, count: usize) -> Command
     Command::WrongOperands
 }
 
-// The later rows of the table of commands: those that list, make or draw.
+// The rows of the table of commands from `complete` to `help`.
 fn later_rows(name: &[u8], count: usize) -> Command
     ensures { λ r. ⌜ r ≡ laterRows (now (name .entry)) count ⌝ }
 {
@@ -51,7 +51,7 @@ fn later_rows(name: &[u8], count: usize) -> Command
     Command::Unknown
 }
 
-// The command of that name with so many operands behind it.
+// The command of that name, followed by `count` operands.
 pub fn command(name: &[u8], count: usize) -> Command
     ensures { λ r. ⌜ r ≡ commandOf (now (name .entry)) count ⌝ }
 {

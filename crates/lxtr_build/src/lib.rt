@@ -80,7 +80,7 @@ fn build_keys(keys: &[u8], work: &mut [u32], out: &mut [u8]) -> Built
     )
 }
 
-// Builds with work that is all zero. The work is left as the placing filled it.
+// Builds with work that is all zero, and leaves the work as placing filled it.
 fn build_cleared(keys: &[u8], work: &mut [u32], out: &mut [u8]) -> Built
     requires { ⌜ Cleared (now work) ⌝ }
     ensures { λ r. ⌜ Answers (fromKeys (length (now (work .entry))) (length (now (out .entry))) (now (keys .entry))) (now (out .entry)) r (now (out .exit)) ⌝ }
@@ -92,8 +92,8 @@ fn build_cleared(keys: &[u8], work: &mut [u32], out: &mut [u8]) -> Built
     build_keys(keys, work, out)
 }
 
-// Builds the image of a key list at the output's front, and answers its length, or a refusal that leaves the output as it is.
-// The work is zero afterwards, but for refusal 21, which leaves it.
+// Builds the image of a key list at the front of the output. Returns its length, or a refusal, which leaves the output untouched.
+// The work is zero afterwards, except after refusal 21, which leaves it.
 pub fn build(keys: &[u8], work: &mut [u32], out: &mut [u8]) -> Built
     ensures { λ r. ⌜ record { answer = r; output = now (out .exit); work = now (work .exit) } ≡ buildOf (now (keys .entry)) (now (work .entry)) (now (out .entry)) ⌝ }
 {

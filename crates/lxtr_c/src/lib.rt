@@ -1,5 +1,5 @@
-// The entries for programs in C and Rust: each operation under a plain name, with slices passed as pointer and length, and one 64-bit
-// number as the answer. `include/lxtr.h` declares them and says what each number means.
+// The functions for programs in C and Rust: each operation under a plain name, with slices passed as pointer and length, and one
+// 64-bit number as the answer. `include/lxtr.h` declares them and says what each number means.
 ghost use mathlib.Core.Path.{_≡_};
 ghost use Rattle.lxtr_spec.specs.HostNumbers.{checkNumber, faultNumber, exactNumber, probeNumber, longestNumber, hostPrefixesOf, hostCompletionOf, hostBuildOf};
 use lxtr_build::build;
@@ -25,7 +25,7 @@ pub extern "C" fn lxtr_check(image: &[u8]) -> u64
     host_number(verdict.refusal, false, false, verdict.pairs)
 }
 
-// The place of a fault: for refusals 9 to 12.
+// Where the fault lies, for refusals 9 to 12.
 #[no_mangle]
 pub extern "C" fn lxtr_fault(image: &[u8]) -> u64
     ensures { λ r. ⌜ r ≡ faultNumber (now (image .entry)) ⌝ }
@@ -63,7 +63,7 @@ pub extern "C" fn lxtr_longest(image: &[u8], query: &[u8]) -> u64
     host_number(refusal, false, false, (part.len() / 4) as u32)
 }
 
-// Prefixes: how many there are; their lengths and values alternately in `places`, as far as these go.
+// Prefixes: how many there are. Their lengths and values are put into `places` alternately, as many as fit.
 #[no_mangle]
 pub extern "C" fn lxtr_prefixes(image: &[u8], query: &[u8], places: &mut [u32]) -> u64
     ensures { λ r. ⌜ record { number = r; places = now (places .exit) } ≡ hostPrefixesOf (now (image .entry)) (now (query .entry)) (now (places .entry)) ⌝ }
@@ -80,7 +80,7 @@ pub extern "C" fn lxtr_prefixes(image: &[u8], query: &[u8], places: &mut [u32]) 
     number
 }
 
-// Completions: how many records are in the room, and whether one had none.
+// Completions: how many records are in the room, and whether the listing stopped for lack of room.
 #[no_mangle]
 pub extern "C" fn lxtr_complete(image: &[u8], prefix: &[u8], room: &mut [u8]) -> u64
     ensures { λ r. ⌜ record { number = r; room = now (room .exit) } ≡ hostCompletionOf (now (image .entry)) (now (prefix .entry)) (now (room .entry)) ⌝ }

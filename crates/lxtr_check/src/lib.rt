@@ -1,5 +1,5 @@
-// Checks LXTR images: whether any bytes are an image, and of how many pairs. Each of rules 9 to 12 is a crate of its own. Any caller
-// may use `check`; `image_refusal` and `body_refusal` are for the crates above.
+// Checks LXTR images: whether any bytes are an image, and of how many pairs. Each of rules 9 to 12 has a crate of its own. Any
+// caller may use `check`; `image_refusal` and `body_refusal` are for the crates that use this one.
 ghost use mathlib.Core.Path.{_≡_};
 ghost use Prim.Native.Nat.{_<_};
 ghost use Rattle.lxtr_spec.specs.Image.{slotCount};
@@ -59,7 +59,7 @@ fn is_end(image: &[u8], s: u32) -> bool
     is_used_from_2(image, s) & is_leaf(image, s)
 }
 
-// How many ends there are.
+// The number of ends. An image has one for each pair.
 fn end_count(image: &[u8]) -> u32
     requires { ⌜ Whole (now image) ⌝ }
     ensures { λ r. ⌜ r ≡ endCount (now (image .entry)) ⌝ }

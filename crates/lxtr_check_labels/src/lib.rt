@@ -1,5 +1,5 @@
-// Rule 9: a listed label is no scalar value or is listed twice. Labels that leave the same remainder when divided by CHAINS form a
-// chain, so that a label is compared with the few of its chain instead of with all before it.
+// Rule 9: a listed label is no scalar value or is listed twice. Labels with the same remainder modulo CHAINS form a chain, so
+// that a label is compared only with the few earlier labels of its chain.
 ghost use mathlib.Core.Path.{_≡_};
 ghost use Prim.Native.Nat.{_+_, _<_};
 ghost use Rattle.lxtr_spec.specs.Ranges.{anyBelow, firstBelow};
@@ -12,8 +12,8 @@ use lxtr_image::code_map::label_at;
 use lxtr_image::code_map::label_count;
 use lxtr_spec::MAX_LISTED;
 
-// How many chains there are: 4,096, a power of two, so that the remainder needs no division. Scalar values are below 0x110000, so
-// a chain of distinct ones has at most 272 of them.
+// The number of chains: 4,096, a power of two, so that the remainder needs no division. Scalar values are below 0x110000, so a
+// chain of distinct ones has at most 272 labels.
 const CHAINS: usize = MAX_LISTED + 1;
 
 // The chain of a label.
@@ -24,8 +24,8 @@ fn chain_of(label: u32) -> usize
     label as usize % CHAINS
 }
 
-// Whether a place before i lists the same label. An entry of a table is one more than a place, and 0 for none: `last` has the last
-// entry of each chain, `before` for each place the entry before it in its chain. Places are below MAX_LISTED, so 16 bits hold them.
+// Whether a place before i lists the same label. The tables hold places plus 1, and 0 for none: `last` has the last place of each
+// chain, `before` the place that comes before each place in its chain. Places are below MAX_LISTED, so 16 bits are enough.
 fn listed_before(image: &[u8], i: u16, last: &[u16], before: &[u16]) -> bool
     requires { ⌜ Passed (now image) ⌝ }
     requires { ⌜ i < labelCount (now image) ⌝ }
@@ -44,7 +44,7 @@ fn listed_before(image: &[u8], i: u16, last: &[u16], before: &[u16]) -> bool
     false
 }
 
-// The label at place i is wrong. Only scalar values come into the chains, which keeps these short.
+// Whether the label at place i is wrong. Only scalar values are put into chains, which keeps the chains short.
 fn label_wrong(image: &[u8], i: u16, last: &[u16], before: &[u16]) -> bool
     requires { ⌜ Passed (now image) ⌝ }
     requires { ⌜ i < labelCount (now image) ⌝ }
@@ -57,7 +57,7 @@ fn label_wrong(image: &[u8], i: u16, last: &[u16], before: &[u16]) -> bool
     listed_before(image, i, last, before)
 }
 
-// Puts the label at place i at the end of its chain.
+// Appends the label at place i to its chain.
 fn put_last(image: &[u8], i: u16, last: &mut [u16], before: &mut [u16])
     requires { ⌜ Passed (now image) ⌝ }
     requires { ⌜ i < labelCount (now image) ⌝ }
@@ -69,7 +69,7 @@ fn put_last(image: &[u8], i: u16, last: &mut [u16], before: &mut [u16])
     last[chain] = i + 1;
 }
 
-// The first place with a wrong label, or L where there is none.
+// The first place with a wrong label, or L if there is none.
 pub fn first_wrong_label(image: &[u8]) -> u32
     requires { ⌜ Passed (now image) ⌝ }
     ensures { λ r. ⌜ r ≡ firstBelow (labelCount (now (image .entry))) (labelWrong (now (image .entry))) ⌝ }

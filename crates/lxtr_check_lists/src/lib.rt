@@ -26,7 +26,7 @@ fn offset_falls(image: &[u8], p: u32) -> bool
     offset_at(image, p + 1) < offset_at(image, p)
 }
 
-// The first slot at which offsets fall, or N where they do not.
+// The first slot at which the offsets fall, or N if there is none.
 pub fn first_falling(image: &[u8]) -> u32
     requires { ⌜ Whole (now image) ⌝ }
     ensures { λ r. ⌜ r ≡ firstBelow (slotCount (now (image .entry))) (offsetFalls (now (image .entry))) ⌝ }
@@ -49,7 +49,7 @@ fn offsets_fall(image: &[u8]) -> bool
     first_falling(image) < slot_count(image)
 }
 
-// How many used slots from 2 up there are.
+// The number of used slots from 2 up.
 pub fn used_count(image: &[u8]) -> u32
     requires { ⌜ Whole (now image) ⌝ }
     ensures { λ r. ⌜ r ≡ usedCount (now (image .entry)) ⌝ }
@@ -64,7 +64,7 @@ pub fn used_count(image: &[u8]) -> u32
     used
 }
 
-// Entry j of the list of slot p is outside 2 to N-1, unused or has another parent.
+// Whether entry j of the children, which is in the list of slot p, is outside 2 to N-1, unused or has another parent.
 fn entry_wrong(image: &[u8], p: u32, j: u32) -> bool
     requires { ⌜ Whole (now image) ⌝ }
     requires { ⌜ j < childCount (now image) ⌝ }
@@ -77,7 +77,7 @@ fn entry_wrong(image: &[u8], p: u32, j: u32) -> bool
     (t < 2) | !is_used(image, t) | (parent_of(image, t) != p)
 }
 
-// The code of entry j is not above that of the entry before it in the list of slot p.
+// Whether the code of entry j is not above that of the entry before it in the list of slot p.
 fn code_not_above(image: &[u8], p: u32, j: u32) -> bool
     requires { ⌜ Whole (now image) ⌝ }
     requires { ⌜ p < slotCount (now image) ⌝ }
@@ -90,7 +90,7 @@ fn code_not_above(image: &[u8], p: u32, j: u32) -> bool
     code_to(image, p, child_at(image, j)) <= code_to(image, p, child_at(image, j - 1))
 }
 
-// Either of these at the entry i places into the list.
+// Whether entry i of the list of slot p, counted from the start of the list, has either fault.
 fn entry_wrong_in(image: &[u8], p: u32, i: u32) -> bool
     requires { ⌜ Whole (now image) ⌝ }
     requires { ⌜ p < slotCount (now image) ⌝ }
@@ -101,7 +101,7 @@ fn entry_wrong_in(image: &[u8], p: u32, i: u32) -> bool
     entry_wrong(image, p, j) | code_not_above(image, p, j)
 }
 
-// How many places into the list of slot p its first wrong entry is, or how wide the list is where there is none.
+// The first wrong entry of the list of slot p, counted from the start of the list, or the width of the list if there is none.
 pub fn first_wrong_entry(image: &[u8], p: u32) -> u32
     requires { ⌜ Passed (now image) ⌝ }
     requires { ⌜ anyBelow (slotCount (now image)) (offsetFalls (now image)) ≡ false ⌝ }
@@ -128,7 +128,7 @@ fn entries_wrong(image: &[u8], p: u32) -> bool
     first_wrong_entry(image, p) < list_width(image, p)
 }
 
-// The first slot whose list has a wrong entry, or N where there is none.
+// The first slot whose list has a wrong entry, or N if there is none.
 pub fn first_wrong_list(image: &[u8]) -> u32
     requires { ⌜ Passed (now image) ⌝ }
     requires { ⌜ anyBelow (slotCount (now image)) (offsetFalls (now image)) ≡ false ⌝ }
@@ -162,7 +162,7 @@ pub fn childless(image: &[u8], s: u32) -> bool
     is_used_from_2(image, s) & !is_leaf(image, s) & (list_width(image, s) == 0)
 }
 
-// It looks at all slots: which of them are leaves is hard to predict, so no branch depends on it.
+// Looks at all slots instead of stopping at the first: which slots are leaves is hard to predict, so no branch depends on it.
 fn some_childless(image: &[u8]) -> bool
     requires { ⌜ Whole (now image) ⌝ }
     ensures { λ r. ⌜ r ≡ anyBelow (slotCount (now (image .entry))) (childless (now (image .entry))) ⌝ }
@@ -177,7 +177,7 @@ fn some_childless(image: &[u8]) -> bool
     found
 }
 
-// Slot 1 has no child and its base is not 0.
+// Whether slot 1 has no child and its base is not 0.
 fn root_wrong(image: &[u8]) -> bool
     requires { ⌜ Whole (now image) ⌝ }
     ensures { λ r. ⌜ r ≡ rootWrong (now (image .entry)) ⌝ }

@@ -1,6 +1,6 @@
-// Rule 12: some used slot from 2 up doesn't reach slot 1. If no slot is wrong (rule 10), each parent is a slot, slots 0 and 1 have
-// parent 0, and a used slot from 2 up has a used parent. So the steps from a used slot reach slot 0 only through slot 1, one step after
-// it. Slot 0 is its own parent. So it is enough to look at the slot after STEPS steps, and no single step needs a test.
+// Rule 12: some used slot from 2 up doesn't reach slot 1. If no slot is wrong (rule 10), each parent is a slot, slots 0 and 1
+// have parent 0, and a used slot from 2 up has a used parent. So the steps from a used slot reach slot 0 only through slot 1, and
+// then stay there. It is enough to look at the slot after STEPS steps; the single steps need no test.
 ghost use mathlib.Core.Path.{_≡_};
 ghost use mathlib.Core.Bool.{false};
 ghost use Prim.Native.Nat.{_<_};
@@ -13,13 +13,13 @@ use lxtr_image::nodes::parent_of;
 use lxtr_image::sections::slot_count;
 use lxtr_spec::LENGTH_COUNT;
 
-// From slots that reach slot 1 by LENGTH_COUNT or fewer steps, so many lead to slot 0.
+// A slot that reaches slot 1 by LENGTH_COUNT or fewer steps reaches slot 0 by this many.
 const STEPS: usize = LENGTH_COUNT + 1;
 
-// So many steps are made between two tests. From most slots they lead to slot 0 already, so that the first test decides.
+// The number of steps between two tests. From most slots this many steps already reach slot 0, so the first test decides.
 const STRIDE: usize = 8;
 
-// The slot so many steps to the parent away.
+// The slot that this many steps to the parent reach from slot s.
 fn ancestor(image: &[u8], s: u32, steps: usize) -> u32
     requires { ⌜ Whole (now image) ⌝ }
     requires { ⌜ slotsWrong (now image) ≡ false ⌝ }
@@ -36,7 +36,7 @@ fn ancestor(image: &[u8], s: u32, steps: usize) -> u32
     at
 }
 
-// STEPS steps do not lead to slot 0.
+// Whether STEPS steps from slot s do not reach slot 0.
 fn unreachable(image: &[u8], s: u32) -> bool
     requires { ⌜ Whole (now image) ⌝ }
     requires { ⌜ slotsWrong (now image) ≡ false ⌝ }
@@ -55,7 +55,7 @@ fn unreachable(image: &[u8], s: u32) -> bool
     ancestor(image, at, left) != 0
 }
 
-// The first slot that does not reach slot 1, or N where there is none.
+// The first slot that does not reach slot 1, or N if there is none.
 pub fn first_unreachable(image: &[u8]) -> u32
     requires { ⌜ Whole (now image) ⌝ }
     requires { ⌜ slotsWrong (now image) ≡ false ⌝ }

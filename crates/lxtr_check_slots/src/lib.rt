@@ -41,8 +41,8 @@ fn both_zero(image: &[u8], s: u32) -> bool
     (base_word(image, s) == 0) & (check_word(image, s) == 0)
 }
 
-// Of a used slot from 2 up: a parent that isn't below N, is unused or is a leaf, a code above L, or IS_LEAF that differs from
-// "the code is 0".
+// Whether a used slot from 2 up is wrong: it has a parent that isn't below N, is unused or is a leaf, its code is above L, or
+// IS_LEAF differs from "the code is 0".
 fn used_slot_wrong(image: &[u8], s: u32) -> bool
     requires { ⌜ Passed (now image) ⌝ }
     requires { ⌜ s < slotCount (now image) ⌝ }
@@ -59,7 +59,7 @@ fn used_slot_wrong(image: &[u8], s: u32) -> bool
         | (is_leaf(image, s) != (code == 0))
 }
 
-// Not a leaf, and the slot at its base exists and has it as parent.
+// Whether slot s is "not a leaf, and the slot at its base exists and has it as parent".
 fn end_exists(image: &[u8], s: u32) -> bool
     requires { ⌜ Whole (now image) ⌝ }
     requires { ⌜ s < slotCount (now image) ⌝ }
@@ -76,7 +76,7 @@ fn flag_wrong(image: &[u8], s: u32) -> bool
     has_leaf(image, s) != end_exists(image, s)
 }
 
-// What is asked of a slot depends on which it is: slot 0, slot 1, and from 2 up an unused or a used one.
+// The rule depends on the slot: slot 0, slot 1, an unused slot from 2 up, or a used one.
 fn slot_wrong(image: &[u8], s: u32) -> bool
     requires { ⌜ Passed (now image) ⌝ }
     requires { ⌜ s < slotCount (now image) ⌝ }
@@ -94,7 +94,7 @@ fn slot_wrong(image: &[u8], s: u32) -> bool
     used_slot_wrong(image, s) | flag_wrong(image, s)
 }
 
-// The first wrong slot, or N where there is none.
+// The first wrong slot, or N if there is none.
 pub fn first_wrong_slot(image: &[u8]) -> u32
     requires { ⌜ Passed (now image) ⌝ }
     ensures { λ r. ⌜ r ≡ firstBelow (slotCount (now (image .entry))) (slotWrong (now (image .entry))) ⌝ }

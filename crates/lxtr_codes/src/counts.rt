@@ -1,4 +1,4 @@
-// How often each label is used: the number of keys that contain it.
+// The frequency of each label: the number of keys that contain it.
 ghost use mathlib.Core.Path.{_≡_};
 ghost use mathlib.Core.List.{[]};
 ghost use Prim.Native.Nat.{_+_, _≤_, _<_};
@@ -15,7 +15,7 @@ use lxtr_keys::key_label;
 use lxtr_keys::key_length;
 use lxtr_keys::next_key;
 
-// Label j of the key stands at an earlier place of it too.
+// Whether label j of the key at `at` also occurs earlier in that key.
 fn stands_earlier(keys: &[u8], at: usize, j: usize) -> bool
     requires { ⌜ WholeKey (now keys) at ⌝ }
     requires { ⌜ j < keyLength (now keys) at ⌝ }
@@ -32,7 +32,7 @@ fn stands_earlier(keys: &[u8], at: usize, j: usize) -> bool
     false
 }
 
-// Counts one label of a key. A key counts a label once: not again where it stands earlier in that key.
+// Counts one label of a key. A key counts a label once, so a label that occurs earlier in the key (`again`) is not counted.
 fn count_label(labels: &[u32], guesses: &[u32], counts: &mut [u32], label: u32, again: bool)
     requires { ⌜ Rising (now labels) ⌝ }
     requires { ⌜ placeIn (now labels) label < length (now counts) ⌝ }
@@ -46,7 +46,7 @@ fn count_label(labels: &[u32], guesses: &[u32], counts: &mut [u32], label: u32, 
     counts[i] += 1;
 }
 
-// Counts the labels of the key at a place.
+// Counts the labels of the key at `at`.
 fn count_key(keys: &[u8], at: usize, labels: &[u32], guesses: &[u32], counts: &mut [u32])
     requires { ⌜ WholeKey (now keys) at ⌝ }
     requires { ⌜ Rising (now labels) ⌝ }
@@ -63,7 +63,7 @@ fn count_key(keys: &[u8], at: usize, labels: &[u32], guesses: &[u32], counts: &m
     }
 }
 
-// The frequency of each label, where all counts are zero at first.
+// Counts the frequency of each label, starting from counts that are all zero.
 pub fn count_keys(keys: &[u8], labels: &[u32], guesses: &[u32], counts: &mut [u32])
     requires { ⌜ KeysPassed (now keys) ⌝ }
     requires { ⌜ now labels ≡ labelsUsed (pairsOf (now keys)) [] ⌝ }

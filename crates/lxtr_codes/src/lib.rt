@@ -1,5 +1,5 @@
-// The code map of a key list, as three tables: the labels that the keys use, in ascending order; the code of each; and their places in
-// the order of the codes.
+// The code map of a key list, as three tables: the labels that the keys use, in ascending order; the code of each; and their
+// places in code order.
 mod labels; // the labels
 mod counts; // how many keys contain each
 pub mod guesses; // a label looked up by a guess, also in the crate above
@@ -24,10 +24,10 @@ use crate::ranks::assign;
 use crate::ranks::rank;
 use lxtr_spec::MAX_LISTED;
 
-// How many places each table has: one more than a code map may list labels, so that too many are seen.
+// The size of each table: one more than the number of labels that a code map may list, so that too many are noticed.
 pub const TABLE_SIZE: usize = MAX_LISTED + 1;
 
-// The codes of the labels, and their order, by falling number of keys that contain them.
+// Writes the codes of the labels, and their order, by falling frequency.
 fn code_labels(
     keys: &[u8],
     labels: &[u32],
@@ -48,7 +48,7 @@ fn code_labels(
     assign(&order[..n], codes);
 }
 
-// Fills the tables; answers how many labels there are, which are the places filled, or more than MAX_LISTED for too many.
+// Fills the tables. Returns the number of labels, which is the number of places filled; above MAX_LISTED there are too many.
 pub fn code_map(keys: &[u8], labels: &mut [u32], codes: &mut [u32], order: &mut [u32]) -> usize
     requires { ⌜ KeysPassed (now keys) ⌝ }
     requires { ⌜ (length (now labels) ≡ tableSize) × (length (now codes) ≡ tableSize) × (length (now order) ≡ tableSize) ⌝ }

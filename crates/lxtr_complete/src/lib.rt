@@ -1,5 +1,5 @@
-// Completions of LXTR images, written into lent room: the pairs whose keys begin with the labels of a query.
-// Any caller may use `complete`; the other functions are its parts.
+// Completions of LXTR images, written into lent room: the pairs whose keys begin with the labels of a query. Any caller may use
+// `complete`; the other functions are its parts.
 mod records; // one record after the other
 mod listing; // the pairs below a slot
 
@@ -25,7 +25,7 @@ use lxtr_spec::refusals::ROOM_TOO_SMALL;
 use lxtr_walk::search_refusal;
 use lxtr_walk::walk_within;
 
-// The labels of a query, at the front of a path.
+// Writes the labels of a query to the front of a path.
 fn fill_path(query: &[u8], path: &mut [u32])
     requires { ⌜ length (labelsOf (now query)) ≤ length (now path) ⌝ }
     ensures { λ _. ⌜ take (length (labelsOf (now (query .entry)))) (now (path .exit)) ≡ labelsOf (now (query .entry)) ⌝ }
@@ -38,7 +38,7 @@ fn fill_path(query: &[u8], path: &mut [u32])
     }
 }
 
-// The listing of no pairs.
+// Writes the listing of no pairs.
 fn list_none(room: &mut [u8]) -> Completion
     requires { ⌜ 5 ≤ length (now room) ⌝ }
     ensures { λ r. ⌜ record { answer = r; room = now (room .exit) } ≡ written (now (room .entry)) [] ⌝ }
@@ -51,8 +51,8 @@ fn list_none(room: &mut [u8]) -> Completion
     }
 }
 
-// The listing of the pairs below slot n, with `left` more labels allowed behind the slot's, which are the first of the path. The
-// records go behind version and count, which are written when the count is known.
+// Writes the listing of the pairs below slot n, with `left` labels still allowed. The slot's own labels are at the front of the
+// path. Version and count come first, but are written last, when the count is known.
 fn list_with_head(
     image: &[u8],
     left: usize,
@@ -75,7 +75,7 @@ fn list_with_head(
     }
 }
 
-// The same, where the labels of the query reach slot n.
+// Writes the listing for a query whose labels reach slot n.
 fn list_reached(image: &[u8], n: u32, query: &[u8], room: &mut [u8]) -> Completion
     requires { ⌜ Accepted (now image) ⌝ }
     requires { ⌜ n < slotCount (now image) ⌝ }
@@ -88,7 +88,7 @@ fn list_reached(image: &[u8], n: u32, query: &[u8], room: &mut [u8]) -> Completi
     list_with_head(image, LENGTH_COUNT - label_count(query), n, &mut path, room)
 }
 
-// The listing of the pairs whose keys begin with the labels of the query; of none where these reach no slot.
+// Writes the listing of the pairs whose keys begin with the labels of the query; of no pairs if these labels reach no slot.
 fn list_pairs(image: &[u8], query: &[u8], room: &mut [u8]) -> Completion
     requires { ⌜ Accepted (now image) ⌝ }
     requires { ⌜ 5 ≤ length (now room) ⌝ }
@@ -100,7 +100,7 @@ fn list_pairs(image: &[u8], query: &[u8], room: &mut [u8]) -> Completion
     list_reached(image, n, query, room)
 }
 
-// 1 to 8 of the image, 13 of the query, 9 to 12 of the image, then 14 for room below 5 bytes; or 0.
+// The first refusal that holds, or 0: 1 to 8 of the image, 13 of the query, 9 to 12 of the image, then 14 for room below 5 bytes.
 fn completion_refusal(image: &[u8], query: &[u8], room: &[u8]) -> u8
     ensures { λ r. ⌜ r ≡ completionRefusal (now (image .entry)) (now (query .entry)) (now (room .entry)) ⌝ }
 {
@@ -118,7 +118,7 @@ fn completion_refusal(image: &[u8], query: &[u8], room: &[u8]) -> u8
     0
 }
 
-// Completions: as many of the pairs whose keys begin with the labels of the query as there is room for. A refusal writes nothing.
+// Completions: the pairs whose keys begin with the labels of the query, up to the first without room. A refusal writes nothing.
 pub fn complete(image: &[u8], query: &[u8], room: &mut [u8]) -> Completion
     ensures { λ r. ⌜ record { answer = r; room = now (room .exit) } ≡ completionOf (now (image .entry)) (now (query .entry)) (now (room .entry)) ⌝ }
 {

@@ -1,5 +1,5 @@
-// Lists the pairs below a slot of an accepted image, each as a record in lent room. The labels on the way from slot 1 to the slot
-// are kept at the front of a lent path.
+// Lists the pairs below a slot of an accepted image, each as a record in lent room. The labels from slot 1 to the slot are kept
+// at the front of a lent path.
 ghost use mathlib.Core.Path.{_≡_};
 ghost use Prim.Native.Nat.{_-_, _<_};
 ghost use lib.ListN.{take};
@@ -22,7 +22,7 @@ use lxtr_image::nodes::has_leaf;
 use lxtr_image::nodes::value_number;
 use lxtr_spec::LENGTH_COUNT;
 
-// An entry of a children list that is no end: the child, and the label that leads to it.
+// An entry of a children list that is not an end: the child, and the label that leads to it.
 struct Entry {
     slot: u32,
     label: u32,
@@ -43,8 +43,8 @@ fn entry_at(image: &[u8], base: u32, j: u32) -> Entry
     }
 }
 
-// How many ends are in the list of slot n, 1 or 0. Codes rise along a list and that of an end is 0, so only the first entry can be
-// one. The flag of the slot says it too, and is known sooner than the entry.
+// The number of ends in the list of slot n: 1 or 0. Codes rise along a list and the code of an end is 0, so only the first entry
+// can be an end. HAS_LEAF is tested first, because it is known sooner than the entry.
 fn ends_of(image: &[u8], n: u32) -> u32
     requires { ⌜ Accepted (now image) ⌝ }
     requires { ⌜ n < slotCount (now image) ⌝ }
@@ -63,7 +63,8 @@ fn ends_of(image: &[u8], n: u32) -> u32
     1
 }
 
-// The pair of the end in the list of slot n, if there is one. The labels of the slot are the first `len` of the path.
+// Writes the record of the end in the list of slot n, if there is one. The slot's labels are the first `len` of the path. Returns
+// what `put_record` returns.
 fn list_end(
     image: &[u8],
     n: u32,
@@ -88,9 +89,9 @@ fn list_end(
     put_record(path, len, room, at, count)
 }
 
-// The pairs below slot n, with `left` more labels allowed behind the first of the path, which are the slot's. The other places of
-// the path are used for the labels further down. The first record goes to `at`; the answer is where the next one goes, or 0 if one
-// had no room.
+// Writes the records of the pairs below slot n, starting at position `at`, with `left` labels still allowed. The slot's own
+// labels are at the front of the path; the other places of the path are for the labels further down. Returns where the next
+// record goes, or 0 if one had no room.
 pub fn list_below(
     image: &[u8],
     left: usize,

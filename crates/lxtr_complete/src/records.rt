@@ -1,4 +1,4 @@
-// Writes the records of a listing into lent room, one after the other, as long as they fit.
+// Writes the records of a listing into lent room, one after the other, until one has no room.
 ghost use mathlib.Core.Path.{_≡_};
 ghost use Prim.Native.Nat.{_+_, _*_, _≤_};
 ghost use lib.ListN.{length, take, getD};
@@ -9,7 +9,7 @@ ghost use Rattle.lxtr_complete.specs.RecordWriting.{state, put, PutReady
 use lxtr_bytes::numbers::put_be32;
 use lxtr_spec::LENGTH_COUNT;
 
-// The first `len` words of a path.
+// Writes the first `len` words of a path at position `at`.
 fn put_words(path: &[u32; LENGTH_COUNT], len: usize, room: &mut [u8], at: usize)
     requires { ⌜ len ≤ length (now path) ⌝ }
     requires { ⌜ len ≤ lengthCount ⌝ }
@@ -23,8 +23,8 @@ fn put_words(path: &[u32; LENGTH_COUNT], len: usize, room: &mut [u8], at: usize)
     }
 }
 
-// The record of a key and its value, if there is room for it: the length byte, the labels, which are the first `len` words of the
-// path, and the value, which is the next one. The answer is where the next record goes, or 0 if there was no room.
+// Writes the record of a key and its value, if there is room for it: the length byte, the labels (the first `len` words of the
+// path) and the value (the next word). Returns where the next record goes, or 0 if there was no room.
 pub fn put_record(
     path: &[u32; LENGTH_COUNT],
     len: usize,

@@ -1,2 +1,2 @@
-// Demands 2 and 3, stated and proved of the definitions of `lxtr_spec`, and document 01's examples P1 to P11. It holds no code:
-// everything is in specs/.
+// Demands 2 and 3, the places of faults, and document 01's examples P1 to P11, stated and proved of the definitions of
+// `lxtr_spec`. There is no code: everything is in specs/.

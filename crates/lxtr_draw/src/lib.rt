@@ -1,4 +1,4 @@
-// The drawing of an image, in the language of Graphviz: what is drawn of each slot and each entry, written to the front of a lent line.
+// The drawing of an image, in the language of Graphviz: what is drawn of each slot and each entry, as text in a lent line.
 ghost use mathlib.Core.Path.{_≡_};
 ghost use mathlib.Core.Bool.{cond};
 ghost use Prim.Native.Nat.{_≤_, _<_};
@@ -22,7 +22,7 @@ use lxtr_image::sections::slot_count;
 use lxtr_spec::Fault;
 use lxtr_text::forms::fill;
 
-// What is wrong is red, all else a dark grey.
+// Red for what is wrong, dark grey for everything else.
 fn colour(wrong: bool) -> u32
     ensures { λ r. ⌜ r ≡ colour wrong ⌝ }
 {
@@ -32,7 +32,7 @@ fn colour(wrong: bool) -> u32
     0x202020
 }
 
-// How many borders a slot has: a second one where its prefix is a key.
+// How many borders a slot has: two if its prefix is a key, otherwise one.
 fn borders(image: &[u8], s: u32) -> u32
     requires { ⌜ Whole (now image) ⌝ }
     requires { ⌜ s < slotCount (now image) ⌝ }
@@ -44,7 +44,7 @@ fn borders(image: &[u8], s: u32) -> u32
     1
 }
 
-// A slot with its base or value and its parent.
+// Writes the line of a slot, with its base or value and its parent.
 fn slot_line(image: &[u8], s: u32, wrong: bool, line: &mut [u8]) -> usize
     requires { ⌜ Whole (now image) ⌝ }
     requires { ⌜ s < slotCount (now image) ⌝ }
@@ -69,7 +69,7 @@ fn slot_line(image: &[u8], s: u32, wrong: bool, line: &mut [u8]) -> usize
     )
 }
 
-// The step from slot p to slot s, with its label.
+// Writes the line of the step from slot p to slot s, with its label.
 fn step_line(image: &[u8], p: u32, s: u32, line: &mut [u8]) -> usize
     requires { ⌜ Passed (now image) ⌝ }
     requires { ⌜ p < slotCount (now image) ⌝ }
@@ -90,7 +90,7 @@ fn step_line(image: &[u8], p: u32, s: u32, line: &mut [u8]) -> usize
     fill(b"  s% -> s% [label=\"code %\"];\n", &[p, s, code], line)
 }
 
-// Entry j of the children, in the list of slot p.
+// Writes the line of entry j of the children, in the list of slot p.
 fn entry_line(image: &[u8], p: u32, j: u32, wrong: bool, line: &mut [u8]) -> usize
     requires { ⌜ Whole (now image) ⌝ }
     requires { ⌜ j < childCount (now image) ⌝ }
@@ -139,7 +139,7 @@ fn is_wrong_entry(fault: Fault, j: u32) -> bool
     }
 }
 
-// Whether slot s is slot 1, holds something or is at fault.
+// Whether slot s is drawn: it is slot 1, holds something or is at fault.
 fn is_drawn(image: &[u8], fault: Fault, s: u32) -> bool
     requires { ⌜ Whole (now image) ⌝ }
     requires { ⌜ s < slotCount (now image) ⌝ }
@@ -161,7 +161,8 @@ pub fn slot_text(image: &[u8], fault: Fault, s: u32, line: &mut [u8]) -> usize
     slot_line(image, s, is_wrong_slot(fault, s), line)
 }
 
-// The step to slot s, where its parent is a slot other than 0. Such a slot holds something, so it is drawn too.
+// What is drawn of the step to slot s: nothing if its parent is 0 or not a slot. A slot with a parent holds something, so it is
+// drawn too.
 pub fn step_text(image: &[u8], s: u32, line: &mut [u8]) -> usize
     requires { ⌜ Passed (now image) ⌝ }
     requires { ⌜ s < slotCount (now image) ⌝ }
@@ -177,8 +178,8 @@ pub fn step_text(image: &[u8], s: u32, line: &mut [u8]) -> usize
     step_line(image, p, s, line)
 }
 
-// The first slot in whose list entry j lies. It is looked for from a slot on that is not behind it, by the ends of the lists alone: no
-// list before its own ends behind the entry.
+// The first slot in whose list entry j lies. The search starts at slot `from`, which is not after it. It is the first slot whose
+// list ends after the entry, so only the ends of the lists are compared.
 pub fn list_of(image: &[u8], from: u32, j: u32) -> u32
     requires { ⌜ Passed (now image) ⌝ }
     requires { ⌜ j < childCount (now image) ⌝ }
@@ -192,7 +193,7 @@ pub fn list_of(image: &[u8], from: u32, j: u32) -> u32
     p
 }
 
-// Entry j of the children; p is the slot in whose list it lies.
+// What is drawn of entry j of the children; p is the slot in whose list it lies.
 pub fn entry_text(image: &[u8], fault: Fault, p: u32, j: u32, line: &mut [u8]) -> usize
     requires { ⌜ Whole (now image) ⌝ }
     requires { ⌜ j < childCount (now image) ⌝ }

@@ -1,4 +1,4 @@
-// Where the fault lies in an image that is refused by 9 to 12. Any caller may use `fault`.
+// Finds where the fault lies in an image that is refused by 9 to 12. Any caller may use `fault`.
 mod list_faults; // 11: where a list is wrong
 
 ghost use mathlib.Core.Path.{_≡_};
@@ -13,7 +13,7 @@ use lxtr_spec::refusals::WRONG_LABELS;
 use lxtr_spec::refusals::WRONG_LISTS;
 use lxtr_spec::refusals::WRONG_SLOTS;
 
-// Where the fault lies, for refusals 9 to 12: the first place at which the rule does not hold.
+// Where the fault lies: for refusals 9 to 12, the first place at which the rule does not hold; otherwise nowhere.
 pub fn fault(image: &[u8]) -> Fault
     ensures { λ r. ⌜ r ≡ faultOf (now (image .entry)) ⌝ }
 {

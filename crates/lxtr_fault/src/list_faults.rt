@@ -21,7 +21,7 @@ use lxtr_image::sections::child_count;
 use lxtr_image::sections::slot_count;
 use lxtr_spec::Fault;
 
-// The first wrong entry of the list of slot p, by its place in the children array.
+// The first wrong entry of the list of slot p, given by its place in the children array.
 fn entry_fault(image: &[u8], p: u32) -> Fault
     requires { ⌜ Passed (now image) ⌝ }
     requires { ⌜ anyBelow (slotCount (now image)) (offsetFalls (now image)) ≡ false ⌝ }
@@ -31,7 +31,7 @@ fn entry_fault(image: &[u8], p: u32) -> Fault
     Fault::Entry(p, offset_at(image, p) + first_wrong_entry(image, p))
 }
 
-// The entry i places into the list of slot p is slot s.
+// Whether entry i of the list of slot p, counted from the start of the list, is slot s.
 fn is_entry(image: &[u8], p: u32, s: u32, i: u32) -> bool
     requires { ⌜ Whole (now image) ⌝ }
     requires { ⌜ p < slotCount (now image) ⌝ }
@@ -41,7 +41,7 @@ fn is_entry(image: &[u8], p: u32, s: u32, i: u32) -> bool
     child_at(image, offset_at(image, p) + i) == s
 }
 
-// The list of slot p has slot s.
+// Whether the list of slot p contains slot s.
 fn has_entry(image: &[u8], p: u32, s: u32) -> bool
     requires { ⌜ Passed (now image) ⌝ }
     requires { ⌜ anyBelow (slotCount (now image)) (offsetFalls (now image)) ≡ false ⌝ }
@@ -59,7 +59,7 @@ fn has_entry(image: &[u8], p: u32, s: u32) -> bool
     false
 }
 
-// A used slot from 2 up that the list of its parent does not have.
+// Whether slot s is a used slot from 2 up that the list of its parent does not contain.
 fn unlisted(image: &[u8], s: u32) -> bool
     requires { ⌜ Passed (now image) ⌝ }
     requires { ⌜ slotsWrong (now image) ≡ false ⌝ }
@@ -73,7 +73,7 @@ fn unlisted(image: &[u8], s: u32) -> bool
     !has_entry(image, parent_of(image, s), s)
 }
 
-// The first such slot, or N where there is none.
+// The first such slot, or N if there is none.
 fn first_unlisted(image: &[u8]) -> u32
     requires { ⌜ Passed (now image) ⌝ }
     requires { ⌜ slotsWrong (now image) ≡ false ⌝ }
@@ -91,7 +91,7 @@ fn first_unlisted(image: &[u8]) -> u32
     slots
 }
 
-// The first slot that lacks a child, or N where there is none.
+// The first childless slot, or N if there is none.
 fn first_childless(image: &[u8]) -> u32
     requires { ⌜ Whole (now image) ⌝ }
     ensures { λ r. ⌜ r ≡ firstBelow (slotCount (now (image .entry))) (childless (now (image .entry))) ⌝ }
@@ -107,7 +107,7 @@ fn first_childless(image: &[u8]) -> u32
     slots
 }
 
-// The place of the first part of rule 11 that does not hold, for an image that is refused by 11.
+// Where the fault lies in an image that is refused by 11. The tests are in an order in which each relies on those before it.
 pub fn list_fault(image: &[u8]) -> Fault
     requires { ⌜ Passed (now image) ⌝ }
     requires { ⌜ slotsWrong (now image) ≡ false ⌝ }

@@ -1,4 +1,4 @@
-// Reads whole files into lent room, and writes whole files. Errors of the system are reported on standard error, with the reason.
+// Reads whole files into lent room, and writes whole files. System errors are reported on standard error, with the reason.
 ghost use Prim.Native.Nat.{_≤_};
 ghost use lib.ListN.{length};
 use lxtr_bytes::heads::HEAD_LENGTH;
@@ -12,24 +12,27 @@ use lxtr_messages::tell;
 use lxtr_spec::MAX_LISTED;
 use lxtr_spec::MAX_SLOTS;
 
-// The largest image: header, nodes, offsets, children but for slots 0 and 1, and code map. No file that is larger is read or written.
+// The size of the largest image: header, nodes, offsets, a child for each slot from 2 up, and code map. No larger file is read or
+// written.
 pub const LARGEST_FILE: usize = 24
     + 8 * MAX_SLOTS
     + 4 * (MAX_SLOTS + 1)
     + 4 * (MAX_SLOTS - 2)
     + (HEAD_LENGTH + 4 * MAX_LISTED);
 
-// Room for a file, and one byte more, so that a larger file is known. It is lent as an array, so that no proof has to count its elements.
+// Room for a file and one byte more, so that a larger file is noticed. It is lent as an array, so that no proof has to count its
+// elements.
 pub const FILE_ROOM: usize = LARGEST_FILE + 1;
 
-// Tells what failed, with the system's reason.
+// Reports what failed, with the system's reason.
 fn fail(what: &[u8]) {
     os::fail(what);
     say(FAILED);
 }
 
-// Reads a file to its end; answers how many bytes it has, and whether that is the whole file. If not, it is told why: the file is too
-// large or cannot be read. At the end of what was read, one more read tells whether the file ends there.
+// Reads a file to its end. Returns how many bytes were read, and sets `is_whole` if they are the whole file. Otherwise it reports
+// why not: the file is too large or cannot be read. Reading may have stopped at the end or at an error; one more read tells
+// which.
 fn read_all(fd: i32, path: &[u8], room: &mut [u8; FILE_ROOM], is_whole: &mut bool) -> usize
     ensures { λ r. ⌜ r ≤ length (now (room .exit)) ⌝ }
 {
@@ -49,7 +52,7 @@ fn read_all(fd: i32, path: &[u8], room: &mut [u8; FILE_ROOM], is_whole: &mut boo
     size
 }
 
-// Reads the file that an argument names; answers as read_all does.
+// Reads the file that an argument names. Returns what `read_all` returns.
 pub fn load(argument: usize, room: &mut [u8; FILE_ROOM], is_whole: &mut bool) -> usize
     ensures { λ r. ⌜ r ≤ length (now (room .exit)) ⌝ }
 {
@@ -70,7 +73,7 @@ pub fn load(argument: usize, room: &mut [u8; FILE_ROOM], is_whole: &mut bool) ->
     size
 }
 
-// Writes a new file, down to the disk; or tells why not, and removes it.
+// Writes a new file through to the disk. If that fails, reports why and removes the file.
 fn write_new(path: &[u8], bytes: &[u8]) -> bool {
     let fd = os::create(path);
     if fd < 0 {
@@ -89,7 +92,7 @@ fn write_new(path: &[u8], bytes: &[u8]) -> bool {
     is_written
 }
 
-// Writes the file of that name: written to NAME.new, then renamed.
+// Writes the file of that name: to NAME.new, which is then renamed, so that a failure leaves the old file as it was.
 fn replace(path: &[u8], bytes: &[u8]) -> bool {
     let mut name = io::buffer();
     let length = joined(path, b".new", &mut name);
@@ -104,7 +107,7 @@ fn replace(path: &[u8], bytes: &[u8]) -> bool {
     true
 }
 
-// Writes the file that an argument names; answers whether it did.
+// Writes the file that an argument names. Returns whether it was written.
 pub fn save(argument: usize, bytes: &[u8]) -> bool {
     let mut path = io::buffer();
     let length = os::arg(argument, &mut path);

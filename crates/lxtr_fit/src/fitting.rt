@@ -1,4 +1,4 @@
-// First fit: the smallest base under which the slots of some codes are free. `first_fit` is the only function that looks for a base.
+// First fit: the smallest base under which the slots of some codes are free. Only `first_fit` searches for a base.
 ghost use mathlib.Core.Path.{_≡_};
 ghost use Prim.Native.Nat.{_*_, _≤_};
 ghost use lib.ListN.{length};
@@ -25,7 +25,7 @@ fn fits(work: &[u32], slots: usize, codes: &[u32], base: u32) -> bool
     true
 }
 
-// The smallest base from 0 up under which they all are.
+// The smallest base under which the slots of all codes are free, or nothing if no base fits.
 pub fn first_fit(work: &[u32], slots: usize, codes: &[u32]) -> Found
     requires { ⌜ 2 * slots ≤ length (now work) ⌝ }
     ensures { λ r. ⌜ found r ≡ firstFit slots (now (work .entry)) (now (codes .entry)) ⌝ }

@@ -1,4 +1,4 @@
-// The slots of lent work. The words 2 s and 2 s + 1 are base and check of slot s.
+// The slots of lent work. Words 2s and 2s + 1 are base and check of slot s.
 ghost use mathlib.Core.Path.{_≡_};
 ghost use mathlib.Core.Bool.{_&&_};
 ghost use Prim.Native.Nat.{_*_, _≤_};
@@ -8,7 +8,7 @@ ghost use Rattle.lxtr_spec.specs.Placing.{isFree};
 ghost use Rattle.lxtr_spec.specs.Builds.{slotsIn};
 use lxtr_spec::MAX_SLOTS;
 
-// How many slots work of so many words allows.
+// The number of slots that work of this many words allows.
 pub fn slots_in(words: usize) -> usize
     ensures { λ r. ⌜ r ≡ slotsIn words ⌝ }
 {
@@ -18,14 +18,14 @@ pub fn slots_in(words: usize) -> usize
     MAX_SLOTS
 }
 
-// Whether t is one of 2 to slots - 1.
+// Whether t lies in 2 to slots - 1.
 fn is_slot(slots: usize, t: u32) -> bool
     ensures { λ r. ⌜ r ≡ (leb 2 t && ltb t slots) ⌝ }
 {
     (2 <= t) & ((t as usize) < slots)
 }
 
-// Whether t is such a slot and is free.
+// Whether t is such a slot and is free: it has no parent yet.
 pub fn is_free(work: &[u32], slots: usize, t: u32) -> bool
     requires { ⌜ 2 * slots ≤ length (now work) ⌝ }
     ensures { λ r. ⌜ r ≡ isFree slots (now (work .entry)) t ⌝ }

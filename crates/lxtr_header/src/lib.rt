@@ -1,4 +1,4 @@
-// Refusals 1 to 8 of an image, over any bytes: a test for each fault, then the first refusal that holds. Any caller may use
+// Refusals 1 to 8 of an image, for any bytes: a test for each fault, then the first refusal that holds. Any caller may use
 // `header_refusal`.
 ghost use mathlib.Core.Path.{_≡_};
 ghost use mathlib.Core.List.{[], _∷_};
@@ -31,7 +31,7 @@ use lxtr_spec::refusals::WRONG_OFFSET_ENDS;
 use lxtr_spec::refusals::WRONG_SIZES;
 use lxtr_spec::refusals::WRONG_VERSION;
 
-// Whether four bytes differ from `LXTR`. They are compared as one number.
+// Whether four bytes differ from `LXTR`. They are compared as one number, so that the compiler inlines the test.
 fn four_differ(a: u8, b: u8, c: u8, d: u8) -> bool
     ensures { λ r. ⌜ r ≡ magicDiffers (a ∷ b ∷ c ∷ d ∷ []) ⌝ }
 {
@@ -55,7 +55,7 @@ fn version_wrong(image: &[u8]) -> bool
     image[4] != 3
 }
 
-// 4: a reserved byte is not 0. The bytes are read as numbers of 32 bits, of which the first begins with the version.
+// 4: a reserved byte is not 0. The bytes are read as two 32-bit numbers; the first of them begins with the version.
 fn reserved_set(image: &[u8]) -> bool
     requires { ⌜ headerLength ≤ length (now image) ⌝ }
     ensures { λ r. ⌜ r ≡ reservedSet (now (image .entry)) ⌝ }
@@ -107,7 +107,8 @@ fn offset_ends_wrong(image: &[u8]) -> bool
     (offset_at(image, 0) != 0) | (offset_at(image, slot_count(image)) != child_count(image))
 }
 
-// The first of refusals 6 to 8 that holds, or 0, after 1 to 5.
+// The first of refusals 6 to 8 that holds, or 0, for bytes that passed 1 to 5. These are a function of their own because the
+// compiler does not inline a test that follows six others.
 fn parts_refusal(image: &[u8]) -> u8
     requires { ⌜ Sized (now image) ⌝ }
     ensures { λ r. ⌜ r ≡ refuseIf (lengthWrong (now (image .entry))) 6 (refuseIf (mapWrong (now (image .entry))) 7 (refuseIf (offsetEndsWrong (now (image .entry))) 8 0)) ⌝ }

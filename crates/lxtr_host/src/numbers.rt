@@ -1,4 +1,4 @@
-// The number that an operation answers a host program.
+// The 64-bit number that an operation returns to a host program.
 ghost use mathlib.Core.Path.{_≡_};
 ghost use Rattle.lxtr_spec.specs.HostNumbers.{hostNumber, valueNumbered, placeNumber, faultNumbered};
 ghost use Rattle.lxtr_spec.specs.Answers.{found};
@@ -9,7 +9,7 @@ use lxtr_spec::refusals::WRONG_LABELS;
 use lxtr_spec::refusals::WRONG_LISTS;
 use lxtr_spec::refusals::WRONG_SLOTS;
 
-// What one refusal, the mark for more, the mark for a value, and one kind of fault add.
+// The parts of a number: REFUSAL times the refusal, MORE and VALUE for the two marks, and KIND times the kind of a fault.
 const REFUSAL: u64 = 0x100_0000_0000;
 
 const MORE: u64 = 0x2_0000_0000;
@@ -25,7 +25,7 @@ pub fn host_number(refusal: u8, more: bool, valued: bool, n: u32) -> u64
     refusal as u64 * REFUSAL + more as u64 * MORE + valued as u64 * VALUE + n as u64
 }
 
-// The number of a value or none.
+// The number of an answer with a value, or with none.
 pub fn value_numbered(refusal: u8, more: bool, value: Found) -> u64
     ensures { λ r. ⌜ r ≡ valueNumbered refusal more (found value) ⌝ }
 {
@@ -42,7 +42,7 @@ fn place_number(refusal: u8, kind: u8, place: u32) -> u64
     refusal as u64 * REFUSAL + kind as u64 * KIND + place as u64
 }
 
-// The number of where a fault lies.
+// The number for where a fault lies.
 pub fn fault_numbered(fault: Fault) -> u64
     ensures { λ r. ⌜ r ≡ faultNumbered fault ⌝ }
 {

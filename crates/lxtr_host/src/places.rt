@@ -1,10 +1,10 @@
-// The matches of prefixes as words: length and value alternately.
+// The matches of prefixes as words: alternating length and value.
 ghost use mathlib.Core.Path.{_≡_};
 ghost use Prim.Native.Nat.{min};
 ghost use Rattle.lxtr_spec.specs.HostNumbers.{alternately, atFront};
 use lxtr_spec::LENGTH_COUNT;
 
-// How many words all lengths and values are.
+// The number of words for all lengths and values.
 const WORD_COUNT: usize = 2 * LENGTH_COUNT;
 
 // The lesser of two numbers.
@@ -14,7 +14,7 @@ fn lesser(a: usize, b: usize) -> usize
     if a < b { a } else { b }
 }
 
-// Lengths and values at the front of the places, as far as these go. Words past them stay.
+// Writes lengths and values to the front of `places`, as many as fit. Words after them stay.
 pub fn put_places<'a>(
     lengths: &'a [u32; LENGTH_COUNT],
     values: &'a [u32; LENGTH_COUNT],
@@ -31,7 +31,7 @@ pub fn put_places<'a>(
         places[at + 1] = values[i];
         i += 1;
     }
-    // an odd number of words: one length more
+    // an odd number of words ends with a length
     let at = 2 * i;
     if at < count {
         places[at] = lengths[i];

@@ -16,7 +16,7 @@ use lxtr_spec::Found;
 // How many places of the map are compared at a time.
 const BLOCK_SIZE: u32 = 64;
 
-// What a match adds to the sum of a block, beside its place: more than all places of a block together.
+// What a match adds to the sum of a block, besides its place. It is larger than all places of a block together.
 const MATCH: u32 = 0x1_0000;
 
 pub fn map_version(image: &[u8]) -> u8
@@ -36,7 +36,7 @@ pub fn label_count(image: &[u8]) -> u32
     count_at(image, map_at(image))
 }
 
-// The same in an image that passed refusals 1 to 8, by the length of its map.
+// The same for an image that passed refusals 1 to 8, computed from the length of its map.
 fn listed_count(image: &[u8]) -> u32
     requires { ⌜ Passed (now image) ⌝ }
     ensures { λ r. ⌜ r ≡ labelCount (now (image .entry)) ⌝ }
@@ -44,7 +44,7 @@ fn listed_count(image: &[u8]) -> u32
     (map_length(image) - HEAD_LENGTH as u32) / 4
 }
 
-// The label at place i, whose code is i + 1. The map ends the image.
+// The label at place i, whose code is i + 1. The map is the last part of the image, so the image's length tells where it starts.
 pub fn label_at(image: &[u8], i: u32) -> u32
     requires { ⌜ Passed (now image) ⌝ }
     requires { ⌜ i < labelCount (now image) ⌝ }
@@ -54,7 +54,7 @@ pub fn label_at(image: &[u8], i: u32) -> u32
     be32_at(image, map + HEAD_LENGTH + 4 * i as usize)
 }
 
-// What place k of a block adds to its sum: nothing where the label is another; otherwise MATCH, and the place counted from 1.
+// What place k of a block adds to its sum: MATCH plus the place, counted from 1, if it has the label; otherwise nothing.
 fn weight(equal: bool, k: u32) -> u32
     requires { ⌜ k < blockSize ⌝ }
     ensures { λ r. ⌜ r ≡ weight equal k ⌝ }
@@ -62,7 +62,7 @@ fn weight(equal: bool, k: u32) -> u32
     if equal { MATCH + 1 + k } else { 0 }
 }
 
-// The sum over the block of places from i on. It has no branch, so that the compiler compares several places at a time.
+// The sum over the block that starts at place i. It compiles without a branch, so that several places are compared at a time.
 fn block_sum(image: &[u8], label: u32, i: u32) -> u32
     requires { ⌜ Passed (now image) ⌝ }
     requires { ⌜ i + blockSize ≤ labelCount (now image) ⌝ }
@@ -77,7 +77,7 @@ fn block_sum(image: &[u8], label: u32, i: u32) -> u32
     sum
 }
 
-// The code of a label, looked for place by place, of the places from `from` on.
+// The code of a label, searched place by place, starting at place `from`.
 fn code_from(image: &[u8], label: u32, from: u32) -> Found
     requires { ⌜ Passed (now image) ⌝ }
     requires { ⌜ from ≤ labelCount (now image) ⌝ }
@@ -95,8 +95,8 @@ fn code_from(image: &[u8], label: u32, from: u32) -> Found
     Found::Nothing
 }
 
-// The code of a label: its first place, counted from 1. Whole blocks are searched by their sums. In a block that has the label
-// more than once, and in the rest behind the blocks, it is looked for place by place.
+// The code of a label: its first place, counted from 1. Whole blocks are searched by their sums. A block that has the label more
+// than once, and the places after the last whole block, are searched place by place.
 pub fn code_of(image: &[u8], label: u32) -> Found
     requires { ⌜ Passed (now image) ⌝ }
     ensures { λ r. ⌜ found r ≡ codeOf (now (image .entry)) label ⌝ }

@@ -1,4 +1,4 @@
-// The joining rule: a slot, the base of the slot before it and the code between them.
+// The joining rule: the base of a slot and a code give the next slot.
 ghost use mathlib.Core.Path.{_≡_};
 ghost use Prim.Native.Nat.{_<_};
 ghost use Rattle.lxtr_spec.specs.Joining.{slotUnder, codeUnder};

@@ -1,4 +1,4 @@
-// The children lists: the list of slot p is the children from offset p up to offset p + 1.
+// The children lists: the list of slot p has the children from offset p up to, but not including, offset p + 1.
 ghost use mathlib.Core.Path.{_≡_};
 ghost use Prim.Native.Nat.{_<_, _≤_};
 ghost use Rattle.lxtr_spec.specs.Image.{slotCount, childCount, offset, child, listWidth};
@@ -23,7 +23,7 @@ pub fn child_at(image: &[u8], j: u32) -> u32
     le32_at(image, children_at(image) + 4 * j as usize)
 }
 
-// How many children slot p has; none where its offsets fall.
+// The width of the list of slot p; 0 if its offsets fall.
 pub fn list_width(image: &[u8], p: u32) -> u32
     requires { ⌜ Whole (now image) ⌝ }
     requires { ⌜ p < slotCount (now image) ⌝ }

@@ -1,4 +1,4 @@
-// The two words of a slot: base under IS_LEAF, check under HAS_LEAF.
+// The two words of a slot: base, with IS_LEAF as its top bit, and check, with HAS_LEAF.
 ghost use mathlib.Core.Path.{_≡_};
 ghost use Prim.Native.Nat.{_<_};
 ghost use Rattle.lxtr_spec.specs.Image.{slotCount, baseWord, checkWord, isLeaf, hasLeaf, parent, hasParent, base, valueNumber};
@@ -7,7 +7,7 @@ use crate::sections::HEADER_LENGTH;
 use crate::sections::slot_count;
 use lxtr_bytes::numbers::le32_at;
 
-// IS_LEAF of a base, HAS_LEAF of a check.
+// IS_LEAF in the base word, HAS_LEAF in the check word.
 pub const TOP_BIT: u32 = 0x8000_0000;
 
 pub fn base_word(image: &[u8], s: u32) -> u32
@@ -61,7 +61,7 @@ pub fn has_parent(image: &[u8], t: u32, n: u32) -> bool
     parent_of(image, t) == n
 }
 
-// The base of a slot that is no leaf.
+// The base of a slot that is not a leaf.
 pub fn base_of(image: &[u8], s: u32) -> u32
     requires { ⌜ Whole (now image) ⌝ }
     requires { ⌜ s < slotCount (now image) ⌝ }

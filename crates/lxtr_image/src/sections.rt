@@ -8,7 +8,7 @@ use lxtr_bytes::numbers::le32_at;
 
 pub const HEADER_LENGTH: usize = 24;
 
-// N
+// N: the number of slots.
 pub fn slot_count(image: &[u8]) -> u32
     requires { ⌜ headerLength ≤ length (now image) ⌝ }
     ensures { λ r. ⌜ r ≡ slotCount (now (image .entry)) ⌝ }
@@ -16,7 +16,7 @@ pub fn slot_count(image: &[u8]) -> u32
     le32_at(image, 8)
 }
 
-// E
+// E: the number of children.
 pub fn child_count(image: &[u8]) -> u32
     requires { ⌜ headerLength ≤ length (now image) ⌝ }
     ensures { λ r. ⌜ r ≡ childCount (now (image .entry)) ⌝ }
@@ -24,7 +24,7 @@ pub fn child_count(image: &[u8]) -> u32
     le32_at(image, 12)
 }
 
-// M
+// M: the length of the code map in bytes.
 pub fn map_length(image: &[u8]) -> u32
     requires { ⌜ headerLength ≤ length (now image) ⌝ }
     ensures { λ r. ⌜ r ≡ mapLength (now (image .entry)) ⌝ }

@@ -1,5 +1,5 @@
-// Key lists: reading the keys, and the first of refusals 15 to 19. A key list is a version byte 1, a count in four bytes, then per
-// key a length byte and its labels, four bytes each, big-endian. A key is given by the place of its length byte.
+// Key lists: reads the keys, and gives the first of refusals 15 to 19. A key list is a version byte 1, a count in four bytes,
+// then per key a length byte and its labels, four bytes each, big-endian. A key is given by the position of its length byte.
 mod refusals; // 15 and 17 to 19, key by key
 
 ghost use mathlib.Core.Path.{_≡_};
@@ -27,7 +27,7 @@ pub fn key_count(keys: &[u8]) -> usize
     count_at(keys, 0) as usize
 }
 
-// The number of labels of the key at a place.
+// The number of labels of the key at `at`.
 pub fn key_length(keys: &[u8], at: usize) -> usize
     requires { ⌜ at < length (now keys) ⌝ }
     ensures { λ r. ⌜ r ≡ keyLength (now (keys .entry)) at ⌝ }
@@ -35,7 +35,7 @@ pub fn key_length(keys: &[u8], at: usize) -> usize
     keys[at] as usize
 }
 
-// Label j of the key at a place.
+// Label j of the key at `at`.
 pub fn key_label(keys: &[u8], at: usize, j: usize) -> u32
     requires { ⌜ at + 5 + 4 * j ≤ length (now keys) ⌝ }
     ensures { λ r. ⌜ r ≡ keyLabel (now (keys .entry)) at j ⌝ }
@@ -43,7 +43,7 @@ pub fn key_label(keys: &[u8], at: usize, j: usize) -> u32
     be32_at(keys, at + 1 + 4 * j)
 }
 
-// Where the key after the one at a place starts.
+// Where the key after the one at `at` starts.
 pub fn next_key(keys: &[u8], at: usize) -> usize
     requires { ⌜ at < length (now keys) ⌝ }
     ensures { λ r. ⌜ r ≡ nextKey (now (keys .entry)) at ⌝ }
@@ -51,7 +51,7 @@ pub fn next_key(keys: &[u8], at: usize) -> usize
     at + 1 + 4 * key_length(keys, at)
 }
 
-// The first of 15 to 19 that holds of a key list, or 0.
+// The first of refusals 15 to 19 that holds of a key list, or 0.
 pub fn list_refusal(keys: &[u8]) -> u8
     ensures { λ r. ⌜ r ≡ listRefusal (now (keys .entry)) ⌝ }
 {

@@ -1,5 +1,5 @@
-// Refusals 15 and 17 to 19, key by key: a key that is not whole, too long, with a label that is no scalar value, or not above the
-// key before it.
+// Refusals 15 and 17 to 19, key by key: a key that is cut short, is too long, has a label that is not a scalar value, or is not
+// above the key before it.
 ghost use mathlib.Core.Path.{_≡_};
 ghost use Prim.Native.Nat.{_≤_, _<_};
 ghost use lib.ListN.{length};
@@ -19,7 +19,7 @@ use lxtr_spec::refusals::KEYS_NOT_ASCENDING;
 use lxtr_spec::refusals::LIST_MALFORMED;
 use lxtr_spec::refusals::NOT_SCALAR;
 
-// Label j of the key at a place is no scalar value.
+// Whether label j of the key at `at` is not a scalar value.
 fn no_scalar_at(keys: &[u8], at: usize, j: usize) -> bool
     requires { ⌜ WholeKey (now keys) at ⌝ }
     requires { ⌜ j < keyLength (now keys) at ⌝ }
@@ -28,7 +28,7 @@ fn no_scalar_at(keys: &[u8], at: usize, j: usize) -> bool
     !is_scalar(key_label(keys, at, j))
 }
 
-// Some label of the key is no scalar value.
+// Whether some label of the key at `at` is not a scalar value.
 fn some_no_scalar(keys: &[u8], at: usize) -> bool
     requires { ⌜ WholeKey (now keys) at ⌝ }
     ensures { λ r. ⌜ r ≡ anyBelow (keyLength (now (keys .entry)) at) (noScalarAt (now (keys .entry)) at) ⌝ }
@@ -44,7 +44,7 @@ fn some_no_scalar(keys: &[u8], at: usize) -> bool
     false
 }
 
-// The key at `before` comes before the one at `at`: label by label as numbers, a proper prefix first.
+// Whether the key at `before` comes before the key at `at`: label by label as numbers, a proper prefix first.
 fn comes_before(keys: &[u8], before: usize, at: usize) -> bool
     requires { ⌜ WholeKey (now keys) before ⌝ }
     requires { ⌜ WholeKey (now keys) at ⌝ }
@@ -67,7 +67,7 @@ fn comes_before(keys: &[u8], before: usize, at: usize) -> bool
     m < n
 }
 
-// Key i, at a place, is not above the key before it, at the place `before`; key 0 has none before it.
+// Whether key i, at `at`, is not above the key before it, at `before`. There is none before key 0.
 fn not_above(keys: &[u8], i: usize, before: usize, at: usize) -> bool
     requires { ⌜ WholeBefore (now keys) i before ⌝ }
     requires { ⌜ WholeKey (now keys) at ⌝ }
@@ -79,7 +79,7 @@ fn not_above(keys: &[u8], i: usize, before: usize, at: usize) -> bool
     !comes_before(keys, before, at)
 }
 
-// The first of 15 and 17 to 19 that holds of key i, or 0.
+// The first of refusals 15 and 17 to 19 that holds of key i, or 0.
 fn key_refusal(keys: &[u8], i: usize, before: usize, at: usize) -> u8
     requires { ⌜ WholeBefore (now keys) i before ⌝ }
     ensures { λ r. ⌜ r ≡ keyRefusal (now (keys .entry)) i before at ⌝ }
@@ -102,7 +102,7 @@ fn key_refusal(keys: &[u8], i: usize, before: usize, at: usize) -> u8
     0
 }
 
-// The first of these that holds of the keys, of which there are `count`, then 15 for bytes left over; or 0.
+// The first of these that holds of the `count` keys, then 15 for bytes left over; or 0.
 pub fn keys_refusal(keys: &[u8], count: usize) -> u8
     requires { ⌜ keysAt ≤ length (now keys) ⌝ }
     ensures { λ r. ⌜ r ≡ keysRefusal (now (keys .entry)) count 0 0 keysAt ⌝ }

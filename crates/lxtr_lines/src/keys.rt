@@ -1,4 +1,4 @@
-// The labels of a key, given as bytes, four to a label, as text and in hexadecimal.
+// Appends the labels of a key, as text and in hexadecimal. They are given as bytes, four to a label.
 ghost use mathlib.Core.List.{_∷_};
 ghost use Prim.Native.Nat.{_≤_};
 ghost use lib.ListN.{length, drop};
@@ -26,7 +26,7 @@ fn append_text(line: &mut [u8], at: usize, labels: &[u8]) -> usize
     end
 }
 
-// A space and a label.
+// Appends a space and a label in hexadecimal.
 fn append_label(line: &mut [u8], at: usize, x: u32) -> usize
     requires { ⌜ at ≤ length (now line) ⌝ }
     ensures { λ r. ⌜ Appended (now (line .entry)) at (space ∷ hexadecimal x) (now (line .exit)) r ⌝ }
@@ -35,7 +35,7 @@ fn append_label(line: &mut [u8], at: usize, x: u32) -> usize
     append_hexadecimal(line, next, x)
 }
 
-// The labels from place `from` on, a space before each.
+// Appends the labels in hexadecimal, starting at label `from`, with a space before each.
 pub fn append_labels(line: &mut [u8], at: usize, labels: &[u8], from: usize) -> usize
     requires { ⌜ at ≤ length (now line) ⌝ }
     ensures { λ r. ⌜ Appended (now (line .entry)) at (labelsText (drop from (labelsOf (now (labels .entry))))) (now (line .exit)) r ⌝ }
@@ -50,7 +50,7 @@ pub fn append_labels(line: &mut [u8], at: usize, labels: &[u8], from: usize) -> 
     end
 }
 
-// All labels, a space between.
+// Appends all labels in hexadecimal, with a space between.
 fn append_spaced(line: &mut [u8], at: usize, labels: &[u8]) -> usize
     requires { ⌜ at ≤ length (now line) ⌝ }
     ensures { λ r. ⌜ Appended (now (line .entry)) at (spaced (labelsOf (now (labels .entry)))) (now (line .exit)) r ⌝ }
@@ -62,7 +62,7 @@ fn append_spaced(line: &mut [u8], at: usize, labels: &[u8]) -> usize
     append_labels(line, next, labels, 1)
 }
 
-// Text and labels of a key, to the line's end.
+// Appends the text and the labels of a key, and ends the line.
 pub fn append_key(line: &mut [u8], at: usize, labels: &[u8]) -> usize
     requires { ⌜ at ≤ length (now line) ⌝ }
     ensures { λ r. ⌜ Appended (now (line .entry)) at (keyText (labelsOf (now (labels .entry)))) (now (line .exit)) r ⌝ }

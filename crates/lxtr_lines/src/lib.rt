@@ -1,5 +1,5 @@
-// The lines that the programs print, written to the front of a lent line: a word and a number, the pairs of a listing in document 01's
-// form, and keys with their values. The functions are for the programs.
+// The lines that the programs print, written to the front of a lent line: a word and a number, the pairs of a listing in document
+// 01's form, and keys with their values. The functions are for the programs.
 mod keys; // the labels of a key
 
 ghost use mathlib.Core.Path.{_≡_};
@@ -21,7 +21,7 @@ use lxtr_spec::MAX_LABELS;
 use lxtr_text::appending::append_byte;
 use lxtr_text::numerals::append_decimal;
 
-// The bytes of a word.
+// Appends the bytes of a word.
 fn append_word(line: &mut [u8], at: usize, word: &[u8]) -> usize
     requires { ⌜ at ≤ length (now line) ⌝ }
     ensures { λ r. ⌜ Appended (now (line .entry)) at (now (word .entry)) (now (line .exit)) r ⌝ }
@@ -35,7 +35,7 @@ fn append_word(line: &mut [u8], at: usize, word: &[u8]) -> usize
     end
 }
 
-// Two words, one behind the other; answers how many bytes they have.
+// Writes two words, one after the other. Returns how many bytes were written.
 pub fn joined(first: &[u8], second: &[u8], line: &mut [u8]) -> usize
     ensures { λ r. ⌜ Appended (now (line .entry)) 0 (now (first .entry) ++ now (second .entry)) (now (line .exit)) r ⌝ }
 {
@@ -43,7 +43,7 @@ pub fn joined(first: &[u8], second: &[u8], line: &mut [u8]) -> usize
     append_word(line, next, second)
 }
 
-// A line of a word and a number; answers its length, as the functions below do.
+// Writes a line of a word and a number. Returns its length, as the functions below do.
 pub fn number_line(word: &[u8], n: u32, line: &mut [u8]) -> usize
     ensures { λ r. ⌜ Appended (now (line .entry)) 0 (numberLine (now (word .entry)) n) (now (line .exit)) r ⌝ }
 {
@@ -53,7 +53,7 @@ pub fn number_line(word: &[u8], n: u32, line: &mut [u8]) -> usize
     append_byte(line, end, b'\n')
 }
 
-// Whether the record at a place lies whole in a listing and its key has no more labels than a key may have.
+// Whether the record at `at` lies wholly in the listing, and its key has no more labels than a key may have.
 pub fn is_whole_record(listing: &[u8], at: usize) -> bool
     ensures { λ r. ⌜ r ≡ isWholeRecord (now (listing .entry)) at ⌝ }
 {
@@ -66,7 +66,7 @@ pub fn is_whole_record(listing: &[u8], at: usize) -> bool
     next_key(listing, at) + 4 <= listing.len()
 }
 
-// The place behind the record at a place.
+// The position after the record at `at`.
 pub fn record_end(listing: &[u8], at: usize) -> usize
     requires { ⌜ isWholeRecord (now listing) at ≡ true ⌝ }
     ensures { λ r. ⌜ r ≡ recordEnd (now (listing .entry)) at ⌝ }
@@ -74,7 +74,7 @@ pub fn record_end(listing: &[u8], at: usize) -> usize
     next_key(listing, at) + 4
 }
 
-// The value of the record at a place.
+// The value of the record at `at`.
 fn record_value(listing: &[u8], at: usize) -> u32
     requires { ⌜ isWholeRecord (now listing) at ≡ true ⌝ }
     ensures { λ r. ⌜ r ≡ recordPair (now (listing .entry)) at .1 ⌝ }
@@ -82,7 +82,7 @@ fn record_value(listing: &[u8], at: usize) -> u32
     be32_at(listing, next_key(listing, at))
 }
 
-// The labels of the record at a place, as the bytes of the listing.
+// The labels of the record at `at`, as bytes of the listing.
 fn record_labels<'a>(listing: &'a [u8], at: usize) -> &'a [u8]
     requires { ⌜ isWholeRecord (now listing) at ≡ true ⌝ }
     ensures { λ r. ⌜ labelsOf (now r) ≡ recordPair (now (listing .entry)) at .0 ⌝ }
@@ -92,7 +92,7 @@ fn record_labels<'a>(listing: &'a [u8], at: usize) -> &'a [u8]
     &listing[start..end]
 }
 
-// The line of the record at a place, as document 01 has it: the value, then the labels.
+// Writes the line of the record at `at` in document 01's form: the value, then the labels.
 pub fn pair_line(listing: &[u8], at: usize, line: &mut [u8]) -> usize
     requires { ⌜ isWholeRecord (now listing) at ≡ true ⌝ }
     ensures { λ r. ⌜ Appended (now (line .entry)) 0 (pairLine (recordPair (now (listing .entry)) at)) (now (line .exit)) r ⌝ }
@@ -102,7 +102,7 @@ pub fn pair_line(listing: &[u8], at: usize, line: &mut [u8]) -> usize
     append_byte(line, end, b'\n')
 }
 
-// A value with its key, text and labels, to the line's end.
+// Appends a value with the text and the labels of its key, and ends the line.
 fn append_pair(line: &mut [u8], at: usize, value: u32, labels: &[u8]) -> usize
     requires { ⌜ at ≤ length (now line) ⌝ }
     ensures { λ r. ⌜ Appended (now (line .entry)) at (completionLine (labelsOf (now (labels .entry)), value)) (now (line .exit)) r ⌝ }
@@ -112,7 +112,7 @@ fn append_pair(line: &mut [u8], at: usize, value: u32, labels: &[u8]) -> usize
     append_key(line, next, labels)
 }
 
-// The line of the record at a place, as the command prints it: value, text and labels.
+// Writes the line of the record at `at` as the command prints it: value, text and labels.
 pub fn completion_line(listing: &[u8], at: usize, line: &mut [u8]) -> usize
     requires { ⌜ isWholeRecord (now listing) at ≡ true ⌝ }
     ensures { λ r. ⌜ Appended (now (line .entry)) 0 (completionLine (recordPair (now (listing .entry)) at)) (now (line .exit)) r ⌝ }
@@ -125,14 +125,14 @@ pub fn completion_line(listing: &[u8], at: usize, line: &mut [u8]) -> usize
     )
 }
 
-// The line of a key: text and labels.
+// Writes the line of a key: text and labels.
 pub fn key_line(labels: &[u8], line: &mut [u8]) -> usize
     ensures { λ r. ⌜ Appended (now (line .entry)) 0 (keyText (labelsOf (now (labels .entry)))) (now (line .exit)) r ⌝ }
 {
     append_key(line, 0, labels)
 }
 
-// The line of a prefix of a query: length, value, text and labels.
+// Writes the line of a prefix of a query: length, value, text and labels.
 pub fn prefix_line(count: u32, value: u32, part: &[u8], line: &mut [u8]) -> usize
     ensures { λ r. ⌜ Appended (now (line .entry)) 0 (prefixLine count value (labelsOf (now (part .entry)))) (now (line .exit)) r ⌝ }
 {

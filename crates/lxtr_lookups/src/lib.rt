@@ -1,5 +1,5 @@
-// The inspector's commands that check and search an image: check, exact, prefixes, longest, probe and complete. Each calls the proved
-// operation and prints its answer. The last line is one word, for scripts.
+// The inspector's commands that check and search an image: check, exact, prefixes, longest, probe and complete. Each calls the
+// proved operation and prints its answer. The last line is one word, for scripts.
 ghost use mathlib.Core.Path.{_≡_};
 ghost use mathlib.Core.Bool.{true};
 ghost use Rattle.lxtr_lines.specs.Records.{isWholeRecord};
@@ -48,7 +48,7 @@ pub fn check(image: &[u8]) {
     refuse_at(verdict.refusal, lxtr_fault::fault(image));
 }
 
-// A word as text and as labels, where it has no more than a key.
+// Prints a word as text and as labels, unless it has more labels than a key may have.
 fn print_word(query: &[u8]) {
     if query.len() <= 4 * MAX_LABELS {
         let mut line = [0u8; LINE_ROOM];
@@ -57,7 +57,7 @@ fn print_word(query: &[u8]) {
     }
 }
 
-// The value, or that there is none; answers whether there is one.
+// Prints the value, or that there is none. Returns whether there is one.
 fn print_value(value: Found) -> bool {
     match value {
         Found::Is(v) => {
@@ -71,7 +71,7 @@ fn print_value(value: Found) -> bool {
     }
 }
 
-// Why a query has no value. Only of an image does a probe tell whether longer keys exist.
+// Prints why a query has no value. Whether longer keys exist can be told only if the check accepts the image.
 fn print_absent(image: &[u8], query: &[u8]) {
     if 4 * MAX_LABELS < query.len() {
         tell(LONG_QUERY, printed(MAX_LABELS), 0);
@@ -112,7 +112,7 @@ pub fn exact(image: &[u8], query: &[u8]) {
     end_found(is_found);
 }
 
-// The line of a prefix of so many labels. A prefix lies within the query: the test only keeps the reading within bounds.
+// Prints the line of a prefix of `count` labels. A prefix always lies within the query; the test only makes the bound provable.
 fn print_prefix(query: &[u8], count: u32, value: u32) {
     let size = 4 * count as usize;
     if query.len() < size {
@@ -194,7 +194,7 @@ fn print_completion(listing: &[u8], at: usize)
     print(&line[..length]);
 }
 
-// Prints the records of a listing. Each lies whole in it: the test only keeps the reading within bounds.
+// Prints the records of a listing. Each lies wholly in it; the test only makes the bounds provable.
 fn print_completions(listing: &[u8], count: u32) {
     let mut at = HEAD_LENGTH;
     let mut i: u32 = 0;

@@ -1,5 +1,5 @@
-// The sentences of the inspector's command, each given by its place in a text. No contract says which sentence is printed; how the marks
-// of a sentence are filled is proved in `lxtr_text`.
+// The sentences of the inspector's command, each given by its place in a text. No contract says which sentence is printed; how
+// the marks of a sentence are filled is proved in `lxtr_text`.
 mod refusals; // the sentence of each refusal, and of each place at fault
 
 use lxtr_output::print;
@@ -13,7 +13,7 @@ pub use refusals::print_refusal;
 pub use refusals::refuse;
 pub use refusals::refuse_at;
 
-// Places of the sentences below; of the last lines first, each a word that scripts can test.
+// The places of the sentences in `tell`. Those up to FAILED are last lines, each one word that scripts can test.
 pub const ACCEPTED: u8 = 0;
 
 pub const REFUSED: u8 = 1;
@@ -74,7 +74,7 @@ pub const OTHER_OPERANDS: u8 = 28;
 
 pub const LARGE_FILE: u8 = 29;
 
-// Prints a sentence; marks in it stand for the two numbers.
+// Prints a sentence. The marks in it stand for the two numbers.
 pub fn tell(sentence: u8, first: u32, second: u32) {
     print_form(
         text_at(
@@ -119,7 +119,7 @@ pub fn say(sentence: u8) {
     tell(sentence, 0, 0);
 }
 
-// A last line that is none of these.
+// Prints a last line that is none of these.
 pub fn end(word: &[u8]) {
     print(word);
     print(b"\n");
@@ -132,7 +132,7 @@ fn print_form(form: &[u8], first: u32, second: u32) {
     print(&line[..length]);
 }
 
-// A count as a number of a sentence; none that comes up has more than 32 bits.
+// A count as a number for a sentence. No count that occurs has more than 32 bits.
 pub fn printed(n: usize) -> u32 {
     if 0xFFFFFFFF < n {
         return 0xFFFFFFFF;

@@ -1,4 +1,4 @@
-// The table of refusals: document 01's number is the place of the sentence. And the sentence for each place at fault.
+// The sentences of refusals, each at the place of its number in document 01; and the sentences for places at fault.
 use crate::REFUSED;
 use crate::print_form;
 use crate::printed;
@@ -18,7 +18,7 @@ use lxtr_spec::refusals::TOO_MANY_LABELS;
 use lxtr_spec::refusals::UNREACHABLE;
 use lxtr_spec::refusals::WRONG_LABELS;
 
-// The limit that a refusal's sentence names.
+// The limit that the sentence of a refusal names; 0 if it names none.
 fn limit_of(refusal: u8) -> u32 {
     match refusal {
         UNREACHABLE => printed(LENGTH_COUNT),
@@ -30,7 +30,7 @@ fn limit_of(refusal: u8) -> u32 {
     }
 }
 
-// The sentence, without a line's end.
+// Prints the sentence of a refusal, without ending the line.
 pub fn print_refusal(refusal: u8) {
     print_form(
         text_at(
@@ -65,12 +65,12 @@ pub fn print_refusal(refusal: u8) {
     );
 }
 
-// Whether the fault has a place.
+// Whether the fault of a refusal has a place: 9 to 12.
 pub fn has_place(refusal: u8) -> bool {
     (WRONG_LABELS <= refusal) & (refusal <= UNREACHABLE)
 }
 
-// The place of the fault's sentence below.
+// The place of the fault's sentence in `print_fault`.
 fn fault_case(fault: Fault) -> u8 {
     match fault {
         Fault::Nowhere => 0,
@@ -85,7 +85,7 @@ fn fault_case(fault: Fault) -> u8 {
     }
 }
 
-// The number that the sentence names first, and the second.
+// The number that the sentence names first; below it, the one that it names second.
 pub fn fault_number(fault: Fault) -> u32 {
     match fault {
         Fault::Nowhere => 0,
@@ -107,7 +107,7 @@ fn fault_list(fault: Fault) -> u32 {
     }
 }
 
-// Where the fault lies, without a line's end; nothing where it lies nowhere.
+// Prints where the fault lies, without ending the line; nothing if it lies nowhere.
 pub fn print_fault(fault: Fault) {
     print_form(
         text_at(
@@ -127,7 +127,7 @@ pub fn print_fault(fault: Fault) {
     );
 }
 
-// A refusal as a line, and the last word.
+// Prints a refusal, and the last line.
 pub fn refuse(refusal: u8) {
     print_refusal(refusal);
     print(b"\n");

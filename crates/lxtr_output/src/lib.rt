@@ -1,5 +1,5 @@
-// Texts for standard output, each given by its place among several. Each text in a function makes its proof longer. So a program has
-// all its texts in one literal, and refers to them by their places.
+// Texts for standard output, each given by its place among several. Every literal makes the proof of its function longer, so a
+// program has all its texts in one literal, and refers to them by their places.
 pub mod parts; // parts of bytes that are never out of bounds
 
 use crate::parts::behind;
@@ -7,7 +7,7 @@ use crate::parts::find;
 use crate::parts::part;
 use libc::STDOUT_FILENO;
 
-// Where the text of a place starts, from 0, among texts that each end with a stroke.
+// Where the text of a place starts. Places are counted from 0, and each text ends with a vertical bar.
 fn text_start(texts: &[u8], place: u8) -> usize {
     let mut at: usize = 0;
     let mut left = place;
@@ -18,7 +18,7 @@ fn text_start(texts: &[u8], place: u8) -> usize {
     at
 }
 
-// The text of a place, without its stroke.
+// The text of a place, without its vertical bar.
 pub fn text_at<'a>(texts: &'a [u8], place: u8) -> &'a [u8] {
     let start = text_start(texts, place);
     part(texts, start, find(texts, start, b'|'))

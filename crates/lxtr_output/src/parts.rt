@@ -1,6 +1,6 @@
-// Parts of bytes, and places in them, that are never out of bounds.
+// Parts of bytes, and positions in them, that are never out of bounds.
 
-// The byte at a place, or 0 past the end.
+// The byte at position `at`, or 0 past the end.
 pub fn byte_at(bytes: &[u8], at: usize) -> u8 {
     if at < bytes.len() {
         return bytes[at];
@@ -16,7 +16,7 @@ pub fn front<'a>(bytes: &'a [u8], n: usize) -> &'a [u8] {
     bytes
 }
 
-// The bytes from a place on; none past the end.
+// The bytes from position `from` to the end; none if that is past the end.
 fn rest<'a>(bytes: &'a [u8], from: usize) -> &'a [u8] {
     if from < bytes.len() {
         return &bytes[from..];
@@ -24,7 +24,7 @@ fn rest<'a>(bytes: &'a [u8], from: usize) -> &'a [u8] {
     front(bytes, 0)
 }
 
-// The bytes between two places.
+// The bytes from position `from` up to, but not including, position `to`.
 pub fn part<'a>(bytes: &'a [u8], from: usize, to: usize) -> &'a [u8] {
     if to <= from {
         return front(bytes, 0);
@@ -32,7 +32,7 @@ pub fn part<'a>(bytes: &'a [u8], from: usize, to: usize) -> &'a [u8] {
     rest(front(bytes, to), from)
 }
 
-// The place behind one, if that is not past the end.
+// The position after `at`, or `at` itself at the end.
 pub fn behind(bytes: &[u8], at: usize) -> usize {
     if at < bytes.len() {
         return at + 1;
@@ -40,7 +40,7 @@ pub fn behind(bytes: &[u8], at: usize) -> usize {
     at
 }
 
-// Where the byte stands next, or the end.
+// The first position of the byte, starting at `from`, or the end if there is none.
 pub fn find(bytes: &[u8], from: usize, byte: u8) -> usize {
     let mut i = from;
     while i < bytes.len() {

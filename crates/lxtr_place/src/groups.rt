@@ -1,4 +1,4 @@
-// Groups of keys. The keys that pass a slot stand together in the key list, since that ascends.
+// Groups of keys: the keys that pass a slot. They are next to each other in the key list, because it ascends.
 ghost use mathlib.Core.Path.{_≡_};
 ghost use Prim.Native.Nat.{_+_, _≤_, _<_};
 ghost use lib.ListN.{take, drop};
@@ -14,7 +14,7 @@ use lxtr_keys::key_label;
 use lxtr_keys::key_length;
 use lxtr_keys::next_key;
 
-// `count` keys, of which the first starts at the place `at` and has the value number `first`. Of each, `depth` labels are used up.
+// `count` keys. The first starts at position `at` and has value number `first`. Their first `depth` labels lead to the slot.
 pub struct Group {
     pub at: usize,
     pub first: usize,
@@ -22,7 +22,7 @@ pub struct Group {
     pub depth: usize,
 }
 
-// Whether the key at a place goes on by label x after `depth` labels.
+// Whether the key at `at` continues with label x after `depth` labels.
 pub fn goes_by(keys: &[u8], at: usize, depth: usize, x: u32) -> bool
     requires { ⌜ WholeKey (now keys) at ⌝ }
     ensures { λ r. ⌜ r ≡ goesBy x (drop depth (keyAt (now (keys .entry)) at)) ⌝ }
@@ -33,7 +33,7 @@ pub fn goes_by(keys: &[u8], at: usize, depth: usize, x: u32) -> bool
     key_label(keys, at, depth) == x
 }
 
-// Whether the key at a place is used up after `depth` labels, or goes on by a label below x.
+// Whether the key at `at` ends after `depth` labels, or continues with a label below x.
 fn is_under(keys: &[u8], at: usize, depth: usize, x: u32) -> bool
     requires { ⌜ WholeKey (now keys) at ⌝ }
     ensures { λ r. ⌜ r ≡ isUnder x (drop depth (keyAt (now (keys .entry)) at)) ⌝ }
@@ -44,7 +44,7 @@ fn is_under(keys: &[u8], at: usize, depth: usize, x: u32) -> bool
     key_label(keys, at, depth) < x
 }
 
-// Where key i of the group starts. Behind the last one that is where its keys end.
+// Where key i of the group starts. For i = count this is where the last key ends.
 fn start_of(keys: &[u8], starts: &[u32], g: Group, i: usize) -> usize
     requires { ⌜ Grouped (now keys) g ⌝ }
     requires { ⌜ Indexed (now keys) (now starts) g ⌝ }
@@ -54,7 +54,7 @@ fn start_of(keys: &[u8], starts: &[u32], g: Group, i: usize) -> usize
     index(starts[g.first + i])
 }
 
-// The group from its first key on that is not under x, by binary search.
+// The part of the group that starts at its first key not under x. It is found by binary search.
 fn skip_to(keys: &[u8], starts: &[u32], g: Group, x: u32) -> Group
     requires { ⌜ Grouped (now keys) g ⌝ }
     requires { ⌜ Indexed (now keys) (now starts) g ⌝ }
@@ -82,7 +82,7 @@ fn skip_to(keys: &[u8], starts: &[u32], g: Group, x: u32) -> Group
     }
 }
 
-// How many keys at the group's front go on by label x.
+// How many keys at the front of the group continue with label x.
 fn run_of(keys: &[u8], g: Group, x: u32) -> usize
     requires { ⌜ Grouped (now keys) g ⌝ }
     ensures { λ r. ⌜ (r ≤ g .count) × (r ≡ runOf x (groupOf (now (keys .entry)) g)) ⌝ }
@@ -99,7 +99,7 @@ fn run_of(keys: &[u8], g: Group, x: u32) -> usize
     i
 }
 
-// The group of the child by label x: the keys that go on by x, and what is left of them behind it.
+// The group of the child by label x: the keys that continue with x, one label deeper.
 pub fn below(keys: &[u8], starts: &[u32], g: Group, x: u32) -> Group
     requires { ⌜ Grouped (now keys) g ⌝ }
     requires { ⌜ Indexed (now keys) (now starts) g ⌝ }
@@ -119,7 +119,7 @@ pub fn below(keys: &[u8], starts: &[u32], g: Group, x: u32) -> Group
     }
 }
 
-// The value number of the key of which no label is left, or 0. That key can only be the first.
+// The value number of the key that ends at the slot, or 0 if there is none. Only the first key of a group can end there.
 pub fn end_value(keys: &[u8], g: Group) -> u32
     requires { ⌜ Grouped (now keys) g ⌝ }
     requires { ⌜ Ascending (groupOf (now keys) g) ⌝ }

@@ -25,10 +25,11 @@ use lxtr_keys::next_key;
 use lxtr_spec::LENGTH_COUNT;
 use lxtr_spec::MAX_KEYS;
 
-// Room for the codes of the children of all slots on the way to a slot. Each code but one at each slot leaves a key behind.
+// Room for the codes of the children of all slots on the way to a slot. At each of these slots, all codes but one leave at least
+// one key behind, so there are at most this many.
 const ROOM: usize = MAX_KEYS + LENGTH_COUNT;
 
-// Where each key starts, and behind the last one where the list ends.
+// Writes where each key starts and, after the last one, where the list ends.
 fn put_starts(keys: &[u8], starts: &mut [u32])
     requires { ⌜ KeysPassed (now keys) ⌝ }
     requires { ⌜ keyCount (now keys) < length (now starts) ⌝ }
@@ -46,7 +47,7 @@ fn put_starts(keys: &[u8], starts: &mut [u32])
     starts[i] = at as u32;
 }
 
-// Places all keys, which pass slot 1, with the tables of their code map. Answers whether each slot had a base.
+// Places all keys, starting at slot 1, with the tables of their code map. Returns whether every slot got a base.
 pub fn place_all(
     keys: &[u8],
     labels: &[u32],

@@ -1,4 +1,5 @@
-// Places a group's keys: its slot is settled, and then each child gone into by ascending code, down to its end, before the next.
+// Places the keys of a group: its slot is settled, and each child is then placed in turn, by ascending code, down to its end,
+// before the next.
 ghost use mathlib.Core.Path.{_≡_};
 ghost use Prim.Native.Nat.{_+_, _*_, _-_, _≤_, _<_};
 ghost use lib.ListN.{getD, length};
@@ -19,7 +20,7 @@ use crate::settling::settle;
 use lxtr_image::joining::slot_under;
 use lxtr_spec::Found;
 
-// Places the children of slot p, whose group is g and which have these codes. Answers p's base.
+// Places the children of slot p, which have these codes; g is the group of p. Returns the base of p, if one fits.
 fn settle_group(
     keys: &[u8],
     work: &mut [u32],
@@ -37,7 +38,7 @@ fn settle_group(
     settle(work, slots, p, value, children)
 }
 
-// The group of g's child by a code from 1 up, whose label the tables give.
+// The group of g's child by a code from 1 up. The tables give the label of the code.
 fn child_group(
     keys: &[u8],
     starts: &[u32],
@@ -59,8 +60,9 @@ fn child_group(
     below(keys, starts, g, labels[order[code as usize - 1] as usize])
 }
 
-// Places slot p's group and all below it, with `left` labels still allowed. Answers whether each slot had a base. The codes of p's
-// children stand at the front of the room while they are gone into; behind them is the room for those further down.
+// Places the group of slot p and all below it, with `left` labels still allowed. Returns whether every slot got a base. The codes
+// of p's children stay at the front of the room while the children are placed; the rest of the room is for the codes further
+// down.
 pub fn place(
     keys: &[u8],
     starts: &[u32],

@@ -12,7 +12,7 @@ use lxtr_image::joining::slot_under;
 use lxtr_image::nodes::TOP_BIT;
 use lxtr_spec::Found;
 
-// Slot p's own words: its base, and HAS_LEAF beside its parent where the first of the codes is that of an end.
+// Writes slot p's own words: its base, and HAS_LEAF in its check if the first of the codes is that of an end.
 fn put_parent(work: &mut [u32], p: u32, base: u32, codes: &[u32])
     requires { ⌜ 2 * p + 1 < length (now work) ⌝ }
     ensures { λ _. ⌜ now (work .exit) ≡ putParent p base (now (codes .entry)) (now (work .entry)) ⌝ }
@@ -27,7 +27,7 @@ fn put_parent(work: &mut [u32], p: u32, base: u32, codes: &[u32])
     work[2 * p as usize + 1] = TOP_BIT + work[2 * p as usize + 1] % TOP_BIT;
 }
 
-// The words of p's child by a code. An end, which has code 0, also has IS_LEAF and the value.
+// Writes the words of p's child by a code. An end, which has code 0, also gets IS_LEAF and the value.
 fn put_child(work: &mut [u32], p: u32, value: u32, base: u32, code: u32)
     requires { ⌜ 2 * slotUnder base code + 1 < length (now work) ⌝ }
     requires { ⌜ value < valueLimit ⌝ }
@@ -42,7 +42,7 @@ fn put_child(work: &mut [u32], p: u32, value: u32, base: u32, code: u32)
     work[2 * t + 1] = p;
 }
 
-// The words of all of p's children.
+// Writes the words of all children of p.
 fn put_children(work: &mut [u32], p: u32, value: u32, base: u32, codes: &[u32])
     requires { ⌜ ChildrenInside (length (now work)) base (now codes) ⌝ }
     requires { ⌜ value < valueLimit ⌝ }
@@ -55,7 +55,8 @@ fn put_children(work: &mut [u32], p: u32, value: u32, base: u32, codes: &[u32])
     }
 }
 
-// Places p's children, which have these codes and of which an end has the value. Answers p's base.
+// Places the children of p, which have these codes; `value` is the value of the end, if there is one. Returns the base of p, if
+// one fits.
 pub fn settle(work: &mut [u32], slots: usize, p: u32, value: u32, codes: &[u32]) -> Found
     requires { ⌜ 2 * slots ≤ length (now work) ⌝ }
     requires { ⌜ p < slots ⌝ }

@@ -1,1 +1,1 @@
-// More examples computed on the definitions of `lxtr_spec`, and what the demands rule out. It holds no code: everything is in specs/.
+// More examples on the definitions of `lxtr_spec`, and what the demands rule out. There is no code: everything is in specs/.

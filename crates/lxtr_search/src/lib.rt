@@ -1,6 +1,6 @@
-// Searches LXTR images: exact match, prefixes, longest match and probe, for any bytes as image and query.
-// They walk every image that passes refusals 1 to 8, whether or not the check would accept it. Any caller may use the four searches;
-// `matches` is for the crates above.
+// Searches LXTR images: exact match, prefixes, longest match and probe, for any bytes as image and query. The searches walk every
+// image that passes refusals 1 to 8, whether or not the check would accept it. Any caller may use them; `matches` is for
+// `lxtr_c`.
 pub mod matches; // the prefixes of a query that have a value
 
 ghost use mathlib.Core.Path.{_≡_};
@@ -22,7 +22,7 @@ use lxtr_walk::search_refusal;
 use lxtr_walk::value_at;
 use lxtr_walk::walk_within;
 
-// The value of all labels of the query, in an image that passed 1 to 8.
+// The value of the whole query, in an image that passed refusals 1 to 8.
 fn exact_value(image: &[u8], query: &[u8]) -> Found
     requires { ⌜ Passed (now image) ⌝ }
     ensures { λ r. ⌜ found r ≡ exactValue (now (image .entry)) (labelsOf (now (query .entry))) ⌝ }
@@ -66,8 +66,8 @@ pub fn prefixes(image: &[u8], query: &[u8]) -> Prefixes
     }
 }
 
-// Longest: the longest prefix that `prefixes` reports, as the front part of the lent query; empty if none. The refusal is told
-// in `refusal`.
+// Longest: the longest prefix that `prefixes` reports, as the front part of the lent query; empty if there is none. `refusal` is
+// set to the refusal, or to 0.
 pub fn longest<'a>(image: &[u8], query: &'a [u8], refusal: &mut u8) -> &'a [u8]
     ensures { λ r. ⌜ record { refusal = now (refusal .exit); part = now r } ≡ longestOf (now (image .entry)) (now (query .entry)) ⌝ }
 {
@@ -80,7 +80,7 @@ pub fn longest<'a>(image: &[u8], query: &'a [u8], refusal: &mut u8) -> &'a [u8]
     &query[..end]
 }
 
-// Probe's answer after a refusal and where the walk fails: none, no.
+// Probe's answer after a refusal, and when the walk fails: no value, no longer keys.
 fn nothing_found(refusal: u8) -> Probe
     ensures { λ r. ⌜ probeMeans r ≡ probeAnswer refusal none false ⌝ }
 {

@@ -1,4 +1,4 @@
-// The prefixes of a query that have a value. One walk finds them all: each slot on its way is asked for its value.
+// The prefixes of a query that have a value. One walk finds them all, because it passes the slot of each prefix.
 ghost use mathlib.Core.Path.{_≡_};
 ghost use Prim.Native.Nat.{_<_};
 ghost use mathlib.Core.List.{[]};
@@ -29,7 +29,7 @@ fn counted_labels(query: &[u8]) -> u32
     }
 }
 
-// Puts a match of length k after the first `count`, if there is a value, and answers how many there are then.
+// Appends a match of length k to the first `count` matches, if there is a value. Returns the new count.
 fn put_match(
     lengths: &mut [u32; LENGTH_COUNT],
     values: &mut [u32; LENGTH_COUNT],
@@ -48,7 +48,7 @@ fn put_match(
     count + 1
 }
 
-// Puts all prefixes that have a value, shortest first, into arrays that hold zeros, and answers how many there are.
+// Writes all prefixes that have a value, shortest first, into arrays that hold zeros. Returns how many there are.
 fn put_matches(
     image: &[u8],
     query: &[u8],
@@ -75,7 +75,7 @@ fn put_matches(
     count
 }
 
-// What `prefixes` answers, in lent arrays: how many matches there are. The refusal is told in `refusal`.
+// What `prefixes` does, but with lent arrays. Returns the number of matches, and sets `refusal` to the refusal, or to 0.
 pub fn put_prefixes(
     image: &[u8],
     query: &[u8],
@@ -95,7 +95,7 @@ pub fn put_prefixes(
     put_matches(image, query, lengths, values)
 }
 
-// Length k if it has a value, otherwise the one before.
+// Length k if there is a value at it, otherwise the length before.
 fn later_length(before: u32, k: u32, value: Found) -> u32
     ensures { λ r. ⌜ r ≡ laterLength before k (found value) ⌝ }
 {

@@ -1,5 +1,5 @@
-// Bytes put behind what is in a lent line. What does not go into the line is left out, so none of the functions here and above asks for
-// room. Each answers the place behind what it put.
+// Appends a byte to a lent line. What does not fit is left out, so no function that appends has to require room. Each of them
+// returns the position after what it appended.
 ghost use mathlib.Core.List.{[], _∷_};
 ghost use Prim.Native.Nat.{_≤_};
 ghost use lib.ListN.{length};

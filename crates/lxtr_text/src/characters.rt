@@ -1,4 +1,4 @@
-// A label as text, in UTF-8.
+// Appends a label as text, in UTF-8.
 ghost use mathlib.Core.Path.{_≡_};
 ghost use mathlib.Core.List.{[], _∷_};
 ghost use Prim.Native.Nat.{_/_, _≤_, _<_};
@@ -9,7 +9,7 @@ ghost use Rattle.lxtr_text.specs.Appends.{Appended};
 use crate::appending::append_byte;
 use lxtr_bytes::labels::is_scalar;
 
-// Shown for a label that can't be shown as itself: U+FFFD.
+// U+FFFD, shown instead of a label that cannot be shown as itself.
 const REPLACEMENT: u32 = 0xFFFD;
 
 // A byte 10xxxxxx with the six lowest bits of n.
@@ -19,7 +19,7 @@ fn tail_byte(n: u32) -> u8
     0x80 + (n % 64) as u8
 }
 
-// The last two bytes of a character of three or four.
+// Appends the last two bytes of a character of three or four bytes.
 fn append_tails(line: &mut [u8], at: usize, x: u32) -> usize
     requires { ⌜ at ≤ length (now line) ⌝ }
     ensures { λ r. ⌜ Appended (now (line .entry)) at (tailByte (x / 64) ∷ tailByte x ∷ []) (now (line .exit)) r ⌝ }
@@ -28,7 +28,7 @@ fn append_tails(line: &mut [u8], at: usize, x: u32) -> usize
     append_byte(line, last, tail_byte(x))
 }
 
-// The bytes of a character from 0x80 up to 0x7FF, of one up to 0xFFFF, and of one above.
+// These three append a character from 0x80 to 0x7FF, one up to 0xFFFF, and one above.
 fn append_two(line: &mut [u8], at: usize, x: u32) -> usize
     requires { ⌜ (0x80 ≤ x) × (x < 0x800) ⌝ }
     requires { ⌜ at ≤ length (now line) ⌝ }
@@ -57,7 +57,7 @@ fn append_four(line: &mut [u8], at: usize, x: u32) -> usize
     append_tails(line, third, x)
 }
 
-// A scalar value.
+// Appends a character, given by its number.
 fn append_character(line: &mut [u8], at: usize, x: u32) -> usize
     requires { ⌜ x < 0x110000 ⌝ }
     requires { ⌜ at ≤ length (now line) ⌝ }
@@ -81,7 +81,7 @@ fn is_control(x: u32) -> bool
     (x < 0x20) | ((0x7F <= x) & (x < 0xA0))
 }
 
-// A label as text, a control character or what is no scalar value replaced.
+// Appends a label as text. A control character, and what is not a scalar value, is replaced.
 pub fn append_shown(line: &mut [u8], at: usize, x: u32) -> usize
     requires { ⌜ at ≤ length (now line) ⌝ }
     ensures { λ r. ⌜ Appended (now (line .entry)) at (shown x) (now (line .exit)) r ⌝ }
@@ -95,7 +95,7 @@ pub fn append_shown(line: &mut [u8], at: usize, x: u32) -> usize
     append_character(line, at, x)
 }
 
-// The same within quotation marks.
+// The same for use within quotation marks: a quotation mark or a backslash gets a backslash before it.
 pub fn append_quoted(line: &mut [u8], at: usize, x: u32) -> usize
     requires { ⌜ at ≤ length (now line) ⌝ }
     ensures { λ r. ⌜ Appended (now (line .entry)) at (quoted x) (now (line .exit)) r ⌝ }

@@ -1,4 +1,4 @@
-// Forms: text in which marks stand for numbers.
+// Forms: text in which the marks %, $ and @ stand for numbers.
 ghost use mathlib.Core.Path.{_≡_};
 ghost use Prim.Native.Nat.{_≤_};
 ghost use lib.ListN.{length};
@@ -10,7 +10,7 @@ use crate::characters::append_quoted;
 use crate::numerals::append_decimal;
 use crate::numerals::append_hexadecimal;
 
-// The next number; 0 where none is left.
+// The next number, or 0 if none is left.
 fn next_number(numbers: &[u32]) -> u32
     ensures { λ r. ⌜ r ≡ nextNumber (now (numbers .entry)) ⌝ }
 {
@@ -20,7 +20,8 @@ fn next_number(numbers: &[u32]) -> u32
     numbers[0]
 }
 
-// What a byte of a form gives, where these numbers are left.
+// Appends what a byte of a form stands for, where `numbers` are left: % is a decimal number, $ a hexadecimal one, @ a label as
+// text for use within quotation marks; any other byte is itself.
 fn append_piece(line: &mut [u8], at: usize, mark: u8, numbers: &[u32]) -> usize
     requires { ⌜ at ≤ length (now line) ⌝ }
     ensures { λ r. ⌜ Appended (now (line .entry)) at (piece mark (now (numbers .entry))) (now (line .exit)) r ⌝ }
@@ -37,14 +38,14 @@ fn append_piece(line: &mut [u8], at: usize, mark: u8, numbers: &[u32]) -> usize
     append_byte(line, at, mark)
 }
 
-// Whether it takes a number.
+// Whether a byte of a form takes a number.
 fn takes(mark: u8) -> bool
     ensures { λ r. ⌜ r ≡ takes mark ⌝ }
 {
     (mark == b'%') | (mark == b'$') | (mark == b'@')
 }
 
-// The place of the next of so many numbers, behind a byte of a form.
+// The place of the next number after a byte of a form; there are `count` numbers.
 fn next_place(mark: u8, next: usize, count: usize) -> usize
     ensures { λ r. ⌜ r ≡ nextPlace mark next count ⌝ }
 {
@@ -57,7 +58,7 @@ fn next_place(mark: u8, next: usize, count: usize) -> usize
     next
 }
 
-// Puts the text of a form at the front of the line; answers its length.
+// Writes the text of a form to the front of the line. Returns its length.
 pub fn fill(form: &[u8], numbers: &[u32], line: &mut [u8]) -> usize
     ensures { λ r. ⌜ Appended (now (line .entry)) 0 (filled (now (form .entry)) (now (numbers .entry))) (now (line .exit)) r ⌝ }
 {

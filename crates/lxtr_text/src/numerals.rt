@@ -1,4 +1,4 @@
-// A number by its digits, put into a line.
+// Appends a number in decimal or hexadecimal digits.
 ghost use mathlib.Core.Path.{_≡_};
 ghost use Prim.Native.Nat.{_≤_, _<_};
 ghost use lib.ListN.{length};
@@ -6,12 +6,12 @@ ghost use Rattle.lxtr_spec.specs.Lines.{digitOf, numeral, decimal, hexadecimal}
 ghost use Rattle.lxtr_text.specs.Appends.{Appended};
 use crate::appending::append_byte;
 
-// The most digits of a number of 32 bits, in decimal and in hexadecimal.
+// The most digits that a 32-bit number has, in decimal and in hexadecimal.
 const DECIMAL_DIGITS: usize = 10;
 
 const HEXADECIMAL_DIGITS: usize = 8;
 
-// The digits 0 to 9, then A to F.
+// The digit of value d: 0 to 9, then A to F.
 fn digit_of(d: u32) -> u8
     requires { ⌜ d < 16 ⌝ }
     ensures { λ r. ⌜ r ≡ digitOf d ⌝ }
@@ -22,7 +22,7 @@ fn digit_of(d: u32) -> u8
     0x37 + d as u8
 }
 
-// A number to a base, where so many digits are enough.
+// Appends n in a base, or only its last `digits` digits if it has more.
 fn append_numeral(line: &mut [u8], at: usize, base: u32, digits: usize, n: u32) -> usize
     requires { ⌜ (2 ≤ base) × (base ≤ 16) ⌝ }
     requires { ⌜ at ≤ length (now line) ⌝ }

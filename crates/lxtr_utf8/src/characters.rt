@@ -1,4 +1,4 @@
-// The character that a text begins with: its number from the bits, then whether these are the very bytes of that number.
+// The character that a text begins with. Its number is read from the bits; then the bytes are compared with those of that number.
 ghost use mathlib.Core.Path.{_≡_};
 ghost use lib.ListN.{length};
 ghost use Rattle.lxtr_spec.specs.Numbers.{byteAt};
@@ -6,23 +6,24 @@ ghost use Rattle.lxtr_command_spec.specs.Utf8.{tailByte, utf8, frontNumber, beg
 ghost use Rattle.lxtr_utf8.specs.Fronts.{byteIs, FrontOf};
 use lxtr_bytes::labels::is_scalar;
 
-// A number, and how many bytes it has at the front of a text: 0 where the text does not begin with a character.
+// The character at the front of a text: its number, and its length in bytes, which is 0 if the text does not begin with a
+// character.
 pub struct Character {
     pub number: u32,
     pub length: usize,
 }
 
-// The first numbers with two, three and four bytes.
+// The smallest numbers that take two, three and four bytes.
 const TWO_BYTES: u32 = 0x80;
 
 const THREE_BYTES: u32 = 0x800;
 
 const FOUR_BYTES: u32 = 0x1_0000;
 
-// A number that is no scalar value, for a byte that no character begins with.
+// Not a scalar value: the number for a byte that no character begins with.
 const NO_NUMBER: u32 = 0x11_0000;
 
-// The byte at a place; past the end it counts as 0.
+// The byte at position i, or 0 past the end.
 fn byte_at(text: &[u8], i: usize) -> u8
     ensures { λ r. ⌜ r ≡ byteAt (now (text .entry)) i ⌝ }
 {
@@ -32,7 +33,7 @@ fn byte_at(text: &[u8], i: usize) -> u8
     0
 }
 
-// The number that the bits of the bytes at the front give.
+// The number that the bits of the first bytes give.
 fn front_number(text: &[u8]) -> u32
     ensures { λ r. ⌜ r ≡ frontNumber (now (text .entry)) ⌝ }
 {
@@ -58,7 +59,7 @@ fn front_number(text: &[u8]) -> u32
     NO_NUMBER
 }
 
-// Whether the text has this byte at a place.
+// Whether the text has byte x at position i.
 fn byte_is(text: &[u8], i: usize, x: u32) -> bool
     ensures { λ r. ⌜ r ≡ byteIs (now (text .entry)) i x ⌝ }
 {
@@ -93,7 +94,7 @@ fn begins_with(text: &[u8], x: u32) -> bool
         & byte_is(text, 3, tail_byte(x))
 }
 
-// How many bytes the number has.
+// How many bytes the number takes.
 fn byte_count(x: u32) -> usize
     ensures { λ r. ⌜ r ≡ length (utf8 x) ⌝ }
 {

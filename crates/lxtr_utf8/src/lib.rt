@@ -1,6 +1,6 @@
-// The labels of a text in UTF-8 (RFC 3629): how many there are, and the labels written into lent room, as in a query. Also the byte order
-// mark at the front of a text. Nothing is assumed about the text. specs/ proves that a text has one reading, and that the order of texts
-// by bytes is their order by labels.
+// The labels of a text in UTF-8 (RFC 3629): how many there are, and writing them into lent room, as in a query. Also the byte
+// order mark at the front of a text. Nothing is assumed about the text. specs/ proves that a text has one reading, and that the
+// order of texts by bytes is their order by labels.
 mod characters; // the character that a text begins with
 
 ghost use mathlib.Core.Path.{_≡_};
@@ -37,7 +37,7 @@ pub fn count_labels(text: &[u8]) -> Decoded
     Decoded { problem: 0, count }
 }
 
-// The labels of a text that is UTF-8, at the front of room that is long enough.
+// Writes the labels of a text that is UTF-8 to the front of room that is long enough.
 fn put_labels(text: &[u8], room: &mut [u8])
     requires { ⌜ IsText (now text) ⌝ }
     requires { ⌜ 4 * length (labelsIn (now text)) ≤ length (now room) ⌝ }
@@ -53,7 +53,7 @@ fn put_labels(text: &[u8], room: &mut [u8])
     }
 }
 
-// Decodes the text into the room, four bytes a label, big-endian. Where there is a problem nothing is written.
+// Decodes the text into the room, four bytes to a label, big-endian. If there is a problem, nothing is written.
 pub fn decode(text: &[u8], room: &mut [u8]) -> Decoded
     ensures { λ r. ⌜ record { answer = r; room = now (room .exit) } ≡ decodingOf (now (text .entry)) (now (room .entry)) ⌝ }
 {
@@ -71,7 +71,7 @@ pub fn decode(text: &[u8], room: &mut [u8]) -> Decoded
     counted
 }
 
-// How many bytes the byte order mark at the text's front has; the words are behind it.
+// The length of the byte order mark at the front of the text; 0 if it has none. The words start after it.
 pub fn mark_length(text: &[u8]) -> usize
     ensures { λ r. ⌜ r ≡ markLength (now (text .entry)) ⌝ }
     ensures { λ r. ⌜ r ≤ length (now (text .entry)) ⌝ }

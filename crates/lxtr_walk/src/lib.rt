@@ -1,5 +1,6 @@
-// The walk over an image that passed refusals 1 to 8: one step, the walk of a query, and what is found at its end; and the refusals that
-// come before it. The functions are for the searches above. All but `search_refusal` require what its answer 0 guarantees.
+// The walk over an image that passed refusals 1 to 8: one step, the walk of a query, and what is found at its end; also the
+// refusals that come before it. The functions are for the search crates. All but `search_refusal` require what its answer 0
+// guarantees.
 ghost use mathlib.Core.Path.{_≡_};
 ghost use Prim.Native.Nat.{_<_};
 ghost use Rattle.lxtr_spec.specs.Labels.{labelsOf};
@@ -22,7 +23,7 @@ use lxtr_spec::Found;
 use lxtr_spec::MAX_LABELS;
 use lxtr_spec::refusals::WRONG_QUERY_LENGTH;
 
-// 1 to 8 of the image, then 13 of the query, or 0.
+// The first of refusals 1 to 8 of the image, then 13 of the query, that holds; or 0.
 pub fn search_refusal(image: &[u8], query: &[u8]) -> u8
     ensures { λ r. ⌜ r ≡ searchRefusal (now (image .entry)) (now (query .entry)) ⌝ }
 {
@@ -36,7 +37,7 @@ pub fn search_refusal(image: &[u8], query: &[u8]) -> u8
     0
 }
 
-// The step from slot n by a code.
+// The step from slot n by a code, if it exists.
 pub fn step(image: &[u8], n: u32, code: u32) -> Found
     requires { ⌜ Passed (now image) ⌝ }
     requires { ⌜ n < slotCount (now image) ⌝ }
@@ -52,7 +53,7 @@ pub fn step(image: &[u8], n: u32, code: u32) -> Found
     Found::Is(t)
 }
 
-// The step by a label. One that isn't listed stops the walk.
+// The step from slot n by a label. A label that isn't listed stops the walk.
 pub fn step_by(image: &[u8], n: u32, label: u32) -> Found
     requires { ⌜ Passed (now image) ⌝ }
     requires { ⌜ n < slotCount (now image) ⌝ }
@@ -64,7 +65,7 @@ pub fn step_by(image: &[u8], n: u32, label: u32) -> Found
     }
 }
 
-// The slot that all labels of a query reach from slot 1.
+// The slot that the labels of a query reach from slot 1.
 fn walk(image: &[u8], query: &[u8]) -> Found
     requires { ⌜ Passed (now image) ⌝ }
     ensures { λ r. ⌜ found r ≡ walk (now (image .entry)) 1 (labelsOf (now (query .entry))) ⌝ }
@@ -82,7 +83,7 @@ fn walk(image: &[u8], query: &[u8]) -> Found
     Found::Is(n)
 }
 
-// The slot that the labels of a query reach from slot 1, if they are at most MAX_LABELS.
+// The same, but nothing for a query of more than MAX_LABELS labels.
 pub fn walk_within(image: &[u8], query: &[u8]) -> Found
     requires { ⌜ Passed (now image) ⌝ }
     ensures { λ r. ⌜ found r ≡ walkWithin (now (image .entry)) (labelsOf (now (query .entry))) ⌝ }
@@ -93,7 +94,7 @@ pub fn walk_within(image: &[u8], query: &[u8]) -> Found
     walk(image, query)
 }
 
-// The value at slot n: HAS_LEAF is set and the step by 0 reaches a leaf.
+// The value at slot n, if HAS_LEAF is set and the step by 0 reaches a leaf.
 pub fn value_at(image: &[u8], n: u32) -> Found
     requires { ⌜ Passed (now image) ⌝ }
     requires { ⌜ n < slotCount (now image) ⌝ }

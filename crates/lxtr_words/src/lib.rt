@@ -1,5 +1,5 @@
-// The key list of a text file of one word per line, in UTF-8: sorted, each word once. Nothing is assumed about the text.
-// Any caller may use `key_list`; the other functions are its parts. A word is given by the place in the text where it starts.
+// The key list of a text file of one word per line, in UTF-8: sorted, each word once. Nothing is assumed about the text. Any
+// caller may use `key_list`; the other functions are its parts. A word is given by the position in the text where it starts.
 mod lines; // the lines of a text, and the word of each
 mod problems; // lines that make no word
 mod order; // which of two words comes first
@@ -22,7 +22,7 @@ use lxtr_command_spec::MANY_WORDS;
 use lxtr_command_spec::NO_ROOM;
 use lxtr_spec::MAX_KEYS;
 
-// A problem that no single line has.
+// The answer for a problem that is not one of a single line.
 fn refused(problem: u8) -> Keyed
     ensures { λ r. ⌜ r ≡ record { problem = problem; line = 0; count = 0; length = 0 } ⌝ }
 {
@@ -34,7 +34,7 @@ fn refused(problem: u8) -> Keyed
     }
 }
 
-// The key list of a table of words.
+// Writes the key list of a table of words, if it fits.
 fn list_words(text: &[u8], starts: &[usize], out: &mut [u8]) -> Keyed
     requires { ⌜ Table (now text) (now starts) ⌝ }
     requires { ⌜ length (now starts) ≤ maxKeys ⌝ }
@@ -53,7 +53,7 @@ fn list_words(text: &[u8], starts: &[usize], out: &mut [u8]) -> Keyed
     }
 }
 
-// The key list of lines that have no problem.
+// Writes the key list of lines that have no problem.
 fn list_lines(text: &[u8], out: &mut [u8]) -> Keyed
     requires { ⌜ LinesRight (linesOf (now text)) ⌝ }
     ensures { λ r. ⌜ record { answer = r; output = now (out .exit) } ≡ keyed (keysOfText (now (text .entry))) (now (out .entry)) ⌝ }
@@ -66,8 +66,8 @@ fn list_lines(text: &[u8], out: &mut [u8]) -> Keyed
     list_words(text, &starts[..count], out)
 }
 
-// Makes the key list of the words of a text, one to a line: sorted, each once, at the front of the output. Where there is a problem
-// nothing is written.
+// Writes the key list of the words of a text, one to a line, to the front of the output: sorted, each word once. If there is a
+// problem, nothing is written.
 pub fn key_list(text: &[u8], out: &mut [u8]) -> Keyed
     ensures { λ r. ⌜ record { answer = r; output = now (out .exit) } ≡ keyedOf (now (text .entry)) (now (out .entry)) ⌝ }
 {

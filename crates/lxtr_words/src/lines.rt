@@ -1,4 +1,4 @@
-// The lines of a text. A line is known by the place where it starts.
+// The lines of a text, and the word of each. A line is given by the position where it starts.
 ghost use mathlib.Core.Path.{_≡_};
 ghost use Prim.Native.Nat.{_≤_};
 ghost use lib.ListN.{length};
@@ -23,7 +23,7 @@ pub fn line_end(text: &[u8], at: usize) -> usize
     text.len()
 }
 
-// Where the word of the line ends: before a carriage return at the line's end.
+// Where the word of the line ends. A carriage return at the end of the line is not part of the word.
 fn word_end(text: &[u8], at: usize, end: usize) -> usize
     requires { ⌜ LineTo (now text) at end ⌝ }
     ensures { λ r. ⌜ WordTo (now (text .entry)) at r ⌝ }

@@ -1,4 +1,4 @@
-// The lines are looked at before anything is written: the first that is not UTF-8, or whose word has too many labels.
+// Finds the first line that is not UTF-8, or whose word has too many labels. This is done before anything is written.
 ghost use mathlib.Core.Path.{_≡_};
 ghost use Rattle.lxtr_command_spec.specs.WordLists.{linesOf, wordProblem, firstProblem};
 ghost use Rattle.lxtr_words.specs.Problems.{problemAnswer};
@@ -24,7 +24,7 @@ fn word_problem(word: &[u8]) -> u8
     0
 }
 
-// The first problem of a line, with the number of that line, from 1.
+// The problem of the first line that has one, with the number of that line, counted from 1.
 pub fn first_problem(text: &[u8]) -> Keyed
     ensures { λ r. ⌜ r ≡ problemAnswer (firstProblem 1 (linesOf (now (text .entry)))) ⌝ }
 {

@@ -1,5 +1,5 @@
-// The key list of a table of words: a version byte 1, a count in four bytes, then per key a length byte and its labels, four bytes
-// each, big-endian.
+// Writes the key list of a table of words: a version byte 1, a count in four bytes, then per key a length byte and its labels,
+// four bytes each, big-endian.
 ghost use mathlib.Core.Path.{_≡_};
 ghost use mathlib.Core.List.{_∷_};
 ghost use Prim.Native.Nat.{_+_, _*_, _≤_};
@@ -16,7 +16,7 @@ use lxtr_bytes::heads::put_head;
 use lxtr_utf8::count_labels;
 use lxtr_utf8::decode;
 
-// How many labels a word has.
+// How many labels the word at `start` has.
 fn label_count(text: &[u8], start: usize) -> usize
     requires { ⌜ WordRight (now text) start ⌝ }
     ensures { λ r. ⌜ (r ≡ length (keyOf (now (text .entry)) start)) × (r ≤ maxLabels) ⌝ }
@@ -24,7 +24,7 @@ fn label_count(text: &[u8], start: usize) -> usize
     count_labels(word_at(text, start)).count
 }
 
-// How many bytes the key list has.
+// The length of the key list in bytes.
 pub fn list_length(text: &[u8], starts: &[usize]) -> usize
     requires { ⌜ Table (now text) (now starts) ⌝ }
     requires { ⌜ length (now starts) ≤ maxKeys ⌝ }
@@ -39,7 +39,7 @@ pub fn list_length(text: &[u8], starts: &[usize]) -> usize
     total
 }
 
-// The labels of a word, from a place on; answers how many they are.
+// Writes the labels of a word at position `at` of the output. Returns how many there are.
 fn put_labels(text: &[u8], start: usize, out: &mut [u8], at: usize) -> usize
     requires { ⌜ WordRight (now text) start ⌝ }
     requires { ⌜ at + 4 * length (keyOf (now text) start) ≤ length (now out) ⌝ }
@@ -49,7 +49,7 @@ fn put_labels(text: &[u8], start: usize, out: &mut [u8], at: usize) -> usize
     decode(word_at(text, start), &mut out[at..]).count
 }
 
-// The key of a word, from a place on; answers the place behind it.
+// Writes the key of a word at position `at` of the output. Returns the position after it.
 fn put_key(text: &[u8], start: usize, out: &mut [u8], at: usize) -> usize
     requires { ⌜ WordRight (now text) start ⌝ }
     requires { ⌜ at + 1 + 4 * length (keyOf (now text) start) ≤ length (now out) ⌝ }
@@ -61,7 +61,7 @@ fn put_key(text: &[u8], start: usize, out: &mut [u8], at: usize) -> usize
     at + 1 + 4 * count
 }
 
-// The keys of all words.
+// Writes the keys of all words, after the head.
 fn put_keys(text: &[u8], starts: &[usize], out: &mut [u8])
     requires { ⌜ Table (now text) (now starts) ⌝ }
     requires { ⌜ 5 + length (keyRecords (keysOf (now text) (now starts))) ≤ length (now out) ⌝ }
@@ -75,7 +75,7 @@ fn put_keys(text: &[u8], starts: &[usize], out: &mut [u8])
     }
 }
 
-// The key list, at the front of the output.
+// Writes the key list to the front of the output.
 pub fn put_list(text: &[u8], starts: &[usize], out: &mut [u8])
     requires { ⌜ Table (now text) (now starts) ⌝ }
     requires { ⌜ length (now starts) ≤ maxKeys ⌝ }

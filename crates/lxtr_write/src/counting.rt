@@ -7,7 +7,7 @@ ghost use Rattle.lxtr_spec.specs.Placing.{isTakenFrom2};
 ghost use Rattle.lxtr_spec.specs.Builds.{slotsUsed};
 ghost use Rattle.lxtr_write.specs.SlotCounting.{Slots};
 
-// Whether slot s lies from 2 up and is taken.
+// Whether s is a taken slot from 2 up.
 fn is_taken_from_2(work: &[u32], s: usize) -> bool
     requires { ⌜ 2 * s + 1 < length (now work) ⌝ }
     ensures { λ r. ⌜ r ≡ isTakenFrom2 (now (work .entry)) s ⌝ }
@@ -15,7 +15,7 @@ fn is_taken_from_2(work: &[u32], s: usize) -> bool
     (2 <= s) & (work[2 * s + 1] != 0)
 }
 
-// N: the highest taken slot plus 1, looked for from the last of all slots down.
+// N: the highest taken slot plus 1, searched from the last slot down.
 pub fn slots_used(work: &[u32], slots: usize) -> usize
     requires { ⌜ Slots (now work) slots ⌝ }
     requires { ⌜ 2 ≤ slots ⌝ }
@@ -31,7 +31,7 @@ pub fn slots_used(work: &[u32], slots: usize) -> usize
     2
 }
 
-// How many of the slots below a bound are taken, from slot 2 up.
+// How many of the slots from 2 to slots - 1 are taken.
 pub fn taken_count(work: &[u32], slots: usize) -> usize
     requires { ⌜ Slots (now work) slots ⌝ }
     ensures { λ r. ⌜ r ≡ countBelow slots (isTakenFrom2 (now (work .entry))) ⌝ }

@@ -27,7 +27,7 @@ use lxtr_image::sections::HEADER_LENGTH;
 use lxtr_spec::Built;
 use lxtr_spec::refusals::OUT_TOO_SMALL;
 
-// The four bytes `LXTR`.
+// Writes the four bytes `LXTR`.
 fn put_magic(out: &mut [u8])
     requires { ⌜ headerLength ≤ length (now out) ⌝ }
     ensures { λ _. ⌜ now (out .exit) ≡ over (now (out .entry)) 0 magic ⌝ }
@@ -39,7 +39,7 @@ fn put_magic(out: &mut [u8])
     out[3] = magic[3];
 }
 
-// The header: `LXTR`, version 3 and three zeros, then N, E and M, then four zeros.
+// Writes the header: `LXTR`, version 3 and three zeros, then N, E and M, then four zeros.
 fn put_header(out: &mut [u8], slots: u32, children: u32, map: u32)
     requires { ⌜ headerLength ≤ length (now out) ⌝ }
     ensures { λ _. ⌜ now (out .exit) ≡ over (now (out .entry)) 0 (headerBytes slots children map) ⌝ }
@@ -52,7 +52,7 @@ fn put_header(out: &mut [u8], slots: u32, children: u32, map: u32)
     put_le32(out, 20, 0);
 }
 
-// The two words of each slot, behind the header.
+// Writes the two words of each slot, after the header.
 fn put_nodes(out: &mut [u8], work: &[u32], slots: usize)
     requires { ⌜ Slots (now work) slots ⌝ }
     requires { ⌜ nodesAt + 8 * slots ≤ length (now out) ⌝ }
@@ -75,7 +75,7 @@ fn listed_label(labels: &[u32], order: &[u32], j: usize) -> u32
     labels[order[j] as usize]
 }
 
-// The labels in the order of their codes, from a place on.
+// Writes the labels in code order, starting at position `at`.
 fn put_labels(out: &mut [u8], at: usize, labels: &[u32], order: &[u32])
     requires { ⌜ MapOrder (now labels) (now order) ⌝ }
     requires { ⌜ at + 4 * length (now order) ≤ length (now out) ⌝ }
@@ -88,7 +88,7 @@ fn put_labels(out: &mut [u8], at: usize, labels: &[u32], order: &[u32])
     }
 }
 
-// The code map, from a place on.
+// Writes the code map, starting at position `at`.
 fn put_map(out: &mut [u8], at: usize, labels: &[u32], order: &[u32])
     requires { ⌜ MapOrder (now labels) (now order) ⌝ }
     requires { ⌜ at + 5 + 4 * length (now order) ≤ length (now out) ⌝ }
@@ -98,7 +98,7 @@ fn put_map(out: &mut [u8], at: usize, labels: &[u32], order: &[u32])
     put_labels(out, at + HEAD_LENGTH, labels, order);
 }
 
-// The image of so many slots of the work, with so many children.
+// Writes the image of the first `slots` slots of the work, which have `children` children in all.
 fn put_sections(
     out: &mut [u8],
     work: &[u32],
@@ -127,7 +127,7 @@ fn put_sections(
     put_map(out, map_at, labels, order);
 }
 
-// The same, or refusal 23 where the output is shorter than the image.
+// The same, or refusal 23 if the output is shorter than the image.
 fn put_fitting(
     out: &mut [u8],
     work: &[u32],
@@ -156,7 +156,8 @@ fn put_fitting(
     }
 }
 
-// The image of the filled work, or refusal 23. Each taken slot from 2 up is the child of one slot, so E is the number of these.
+// Writes the image of the filled work, or gives refusal 23. Each taken slot from 2 up is the child of exactly one slot, so E is
+// the number of these slots.
 pub fn put_image(out: &mut [u8], work: &[u32], labels: &[u32], order: &[u32]) -> Built
     requires { ⌜ ImageReady (now work) (now labels) (now order) ⌝ }
     ensures { λ r. ⌜ Answers (withRoom (length (now (out .entry))) (imageIn (now (work .entry)) (slotsUsed (now (work .entry)) (slotsIn (length (now (work .entry))))) (picked (now (labels .entry)) (now (order .entry))))) (now (out .entry)) r (now (out .exit)) ⌝ }

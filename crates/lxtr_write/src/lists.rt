@@ -17,7 +17,8 @@ use lxtr_bytes::numbers::put_le32;
 use lxtr_image::nodes::TOP_BIT;
 use lxtr_spec::MAX_SLOTS;
 
-// Writes p's children by ascending code, which goes up to `last`, as the entries from `start` on. Answers the entry after them.
+// Writes the children of p by ascending code, up to code `last`, as the entries that start at `start`. Returns the entry after
+// them.
 fn put_children(
     out: &mut [u8],
     at: usize,
@@ -44,7 +45,7 @@ fn put_children(
     e
 }
 
-// Writes the list of slot p in the same way. Slot 0 and an end have no children.
+// Writes the list of slot p in the same way. Slot 0 and ends have no children.
 fn put_list(
     out: &mut [u8],
     at: usize,
@@ -67,7 +68,7 @@ fn put_list(
     put_children(out, at, work, slots, last, links, p, start)
 }
 
-// Writes the offsets from a place on, and behind them the lists of all slots, as the links give them.
+// Writes the offsets, starting at position `at`, and after them the lists of all slots, as the links give them.
 fn put_linked(
     out: &mut [u8],
     at: usize,
@@ -93,7 +94,7 @@ fn put_linked(
     put_le32(out, at + 4 * p, e as u32);
 }
 
-// Writes the offsets from a place on, and behind them the lists of all slots.
+// Writes the offsets, starting at position `at`, and after them the lists of all slots.
 pub fn put_lists(out: &mut [u8], at: usize, work: &[u32], slots: usize, last: u32)
     requires { ⌜ Slots (now work) slots ⌝ }
     requires { ⌜ length (childrenIn (now work) slots last) ≤ slots ⌝ }

@@ -67,7 +67,7 @@ fn fault_word(fault: Fault) -> u8 {
     }
 }
 
-// The list that a place in the children belongs to.
+// Prints the list that a wrong entry is in.
 fn say_list(fault: Fault) {
     match fault {
         Fault::Entry(p, j) => say_number(IN_LIST, p as u64),
@@ -83,7 +83,7 @@ fn say_fault(fault: Fault) {
     }
 }
 
-// The check's answer, and where the fault lies, if that is known.
+// Prints the check's answer, and where the fault lies, if that is known.
 pub fn check(image: &[u8]) {
     let verdict = lxtr_check::check(image);
     say_refusal(verdict.refusal);
@@ -104,7 +104,7 @@ fn say_match(length: u32, value: u32) {
     say(CLOSE);
 }
 
-// Each place that is filled or not zero.
+// Prints each place that is filled or not zero.
 fn say_places(count: u32, lengths: &[u32; LENGTH_COUNT], values: &[u32; LENGTH_COUNT]) {
     let mut i: usize = 0;
     while i < LENGTH_COUNT {
@@ -148,7 +148,7 @@ pub fn probe(image: &[u8], query: &[u8]) {
     say(yes_or_no(answer.longer));
 }
 
-// Completion into the first bytes of a room, as many as the size says; all of them are printed.
+// Lists the completions into the first `size` bytes of a room, and prints all of these bytes.
 pub fn complete(image: &[u8], query: &[u8], size: usize) {
     if LISTING_ROOM < size {
         say(NOT_READ);
@@ -184,8 +184,7 @@ fn complete_room(image: &[u8], query: &[u8], room: &mut [u8]) -> Completion {
     lxtr_complete::complete(image, query, room)
 }
 
-// Builds with the first words of a work and the first bytes of an output, as many as the numbers say. The image is printed, a long one
-// not whole.
+// Builds with the first `words` words of a work and the first `size` bytes of an output. Prints the front of the image.
 pub fn build(keys: &[u8], words: usize, size: usize) {
     if (WORK_WORDS < words) | (OUTPUT_ROOM < size) {
         say(NOT_READ);
@@ -214,13 +213,13 @@ fn build_in(
     say_output(out, built.length as usize);
 }
 
-// Whether the output behind the image is as it was, and the image.
+// Prints whether the output after the image is as it was, and then the image.
 fn say_output(out: &[u8; OUTPUT_ROOM], length: usize) {
     say(rest_word(out, length));
     print_bytes(front(front(out, length), PRINTED));
 }
 
-// The two tests only keep the parts within bounds.
+// The two tests only make the bounds provable.
 fn build_front(keys: &[u8], work: &mut [u32], words: usize, out: &mut [u8], size: usize) -> Built {
     if work.len() < words {
         return build_room(keys, work, out);
@@ -245,7 +244,7 @@ fn work_word(work: &[u32; WORK_WORDS], words: usize) -> u8 {
     WORK_CHANGED
 }
 
-// Whether the output is as it was from a place on.
+// The word for whether the output is as it was, starting at position `from`.
 fn rest_word(out: &[u8; OUTPUT_ROOM], from: usize) -> u8 {
     if is_left(out, from) {
         return REST_LEFT;

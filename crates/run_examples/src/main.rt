@@ -1,5 +1,5 @@
-// Runs document 01's examples, and more cases at its limits and refusals, through the compiled operations: reads a script on standard
-// input, and prints each line with its answer.
+// Runs document 01's examples, and more cases at its limits and refusals, through the compiled operations: reads a script on
+// standard input, and prints each line with its answer.
 mod rooms; // the arrays that are lent
 mod output; // printing
 mod answers; // the commands that ask
@@ -41,7 +41,7 @@ use lxtr_output::parts::front;
 use lxtr_output::parts::part;
 use lxtr_output::print;
 
-// Where a command puts its bytes into the image: `image` at the front, `more` behind it, `set` at a place.
+// Where a command writes its bytes: `image` at the front of the image, `more` after its end, `set` at the position given.
 fn start(request: Request, size: usize) -> usize {
     let command = request.command;
     match command {
@@ -51,7 +51,7 @@ fn start(request: Request, size: usize) -> usize {
     }
 }
 
-// Runs `image`, `more`, `set` or `cut`, and answers how many bytes the image has then; `cut` leaves so many, if there are.
+// Runs `image`, `more`, `set` or `cut`. Returns how many bytes the image has afterwards; `cut` leaves at most the number given.
 fn change(request: Request, image: &mut [u8; ROOM], size: usize, bytes: &[u8]) -> usize {
     let end = put_bytes(image, start(request, size), bytes);
     size_after(request, size, end)
@@ -78,7 +78,7 @@ fn is_change(request: Request) -> bool {
     request.is_read & ((command == IMAGE) | (command == MORE) | (command == SET) | (command == CUT))
 }
 
-// The commands that answer; any other is not understood.
+// Runs a command that has an answer. Any other is not understood.
 fn answer(request: Request, image: &[u8], bytes: &[u8]) {
     let command = request.command;
     match command {
@@ -103,7 +103,7 @@ fn respond(request: Request, image: &[u8], bytes: &[u8]) {
     }
 }
 
-// Runs a command with the bytes of its line, and answers how many bytes the image has then.
+// Runs a command with the bytes of its line. Returns how many bytes the image has afterwards.
 fn run_request(request: Request, image: &mut [u8; ROOM], size: usize, bytes: &[u8]) -> usize {
     if is_change(request) {
         return change(request, image, size, bytes);
@@ -117,7 +117,7 @@ fn run_line(line: &[u8], image: &mut [u8; ROOM], size: usize, bytes: &mut [u8; R
     run_request(request, image, size, front(bytes, request.size))
 }
 
-// A comment or an empty line.
+// Whether a line is a comment or empty.
 fn is_silent(line: &[u8]) -> bool {
     (line.len() == 0) | (byte_at(line, 0) == b'#')
 }
@@ -131,7 +131,7 @@ fn show_line(line: &[u8], image: &mut [u8; ROOM], size: usize, bytes: &mut [u8; 
     run_line(line, image, size, bytes)
 }
 
-// Where the script goes on, and how many bytes the image has.
+// Where the script continues, and how many bytes the image has.
 struct Place {
     at: usize,
     size: usize,
@@ -151,7 +151,7 @@ fn run_next(script: &[u8], place: Place, image: &mut [u8; ROOM], bytes: &mut [u8
     }
 }
 
-// There are no more lines than bytes.
+// There are no more lines than bytes, so as many turns as the script has bytes are enough.
 fn run_script(script: &[u8], image: &mut [u8; ROOM], bytes: &mut [u8; ROOM]) {
     let mut place = Place { at: 0, size: 0 };
     let mut left = script.len();

@@ -1,10 +1,11 @@
-// What the program prints. The words of all answers stand in one text: each text that a function holds makes its proof longer.
+// What the program prints. The words of all answers are in one literal, because every literal makes the proof of its function
+// longer.
 use libc::STDOUT_FILENO;
 use lxtr_output::print;
 use lxtr_output::text_at;
 use lxtr_spec::Found;
 
-// Places of the words in the text below.
+// The places of the words in the text of `say`.
 pub const END: u8 = 0;
 
 pub const NOT_READ: u8 = 1;
@@ -45,7 +46,7 @@ pub const OPEN: u8 = 18;
 
 pub const CLOSE: u8 = 19;
 
-// The places of faults, in the order of the cases of `Fault`.
+// The kinds of fault, in the order of the cases of `Fault`.
 pub const NOWHERE: u8 = 20;
 
 pub const LABEL: u8 = 21;

@@ -1,6 +1,6 @@
 //! Another maker of images: it gives a key list the same code map and value
 //! numbers as document 01's builder, but places the slots breadth first, so that
-//! bases and slots are others. What it writes is an image of the same set.
+//! bases and slots differ. What it writes is an image of the same set.
 //!
 //! Run with `cargo run --release --offline --bin second_maker KEYS IMAGE`.
 

@@ -1,8 +1,8 @@
 //! Compares `lxtr keys` with Rust's own UTF-8, lines and sets, on random texts.
-//! Each wrong variant of this reading has to be told from the command.
+//! Each wrong variant of this reading has to be distinguished from the command.
 //!
-//! Run with `cargo run --release --offline --bin words`, where the command
-//! `../target/bin/lxtr` was built.
+//! Run with `cargo run --release --offline --bin words`, after the command
+//! `../target/bin/lxtr` has been built.
 
 use crosscheck::keylist::{to_bytes, Key};
 use crosscheck::random::Random;
@@ -33,7 +33,7 @@ const WRONG: [Reading; 6] = [
     Reading::ReplacesBadBytes,
 ];
 
-/// The key of a line's word, if it has one, or what the command says of it.
+/// The key of the word on a line, if there is one, or what the command says about it.
 fn key_of(reading: Reading, line: &[u8]) -> Result<Option<Key>, &'static str> {
     let word = match line {
         [word @ .., b'\r'] if reading != Reading::KeepsReturns => word,
@@ -54,7 +54,7 @@ fn key_of(reading: Reading, line: &[u8]) -> Result<Option<Key>, &'static str> {
     Ok(is_word.then_some(key))
 }
 
-/// What the command prints, and the key list that it writes.
+/// What the command has to print, and the key list that it has to write.
 fn expected(reading: Reading, text: &[u8]) -> (String, Option<Vec<u8>>) {
     let words = match text {
         [0xEF, 0xBB, 0xBF, words @ ..] if reading != Reading::KeepsMarks => words,
@@ -84,7 +84,7 @@ fn found(folder: &Path, text: &[u8]) -> io::Result<(String, Option<Vec<u8>>)> {
     Ok((String::from_utf8_lossy(&output.stdout).into_owned(), fs::read(&to).ok()))
 }
 
-/// One to four bytes: a character, or bytes near the limits of the forms, which are mostly none.
+/// One to four bytes: a character, or bytes near the limits of UTF-8, which mostly are not one.
 fn put_character(random: &mut Random, text: &mut Vec<u8>) {
     const LEADS: [u8; 14] =
         [0x7F, 0x80, 0xBF, 0xC0, 0xC2, 0xDF, 0xE0, 0xE3, 0xED, 0xEF, 0xF0, 0xF4, 0xF5, 0xFF];

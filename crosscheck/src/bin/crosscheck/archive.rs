@@ -41,7 +41,7 @@ impl InputCopy {
             && behind.iter().all(|byte| *byte == BEHIND)
     }
 
-    /// A mutable pointer, so that a wrong write through it is a difference.
+    /// A mutable pointer, so that a wrong write through it shows as a difference.
     fn pointer(&mut self) -> *mut u8 {
         self.bytes[self.from..].as_mut_ptr()
     }
@@ -103,7 +103,7 @@ impl Archive {
     }
 }
 
-/// The pointer, or a null one where nothing lies behind it and `null` asks for it.
+/// The pointer, or null if nothing lies there and `null` asks for it.
 fn or_null<T>(pointer: *mut T, len: usize, null: bool) -> *mut T {
     if null && len == 0 {
         std::ptr::null_mut()
@@ -112,12 +112,12 @@ fn or_null<T>(pointer: *mut T, len: usize, null: bool) -> *mut T {
     }
 }
 
-/// Where the listing program lies.
+/// The path of the listing program.
 fn program() -> PathBuf {
     PathBuf::from(env!("CARGO_MANIFEST_DIR")).join("../target/bin/list_pairs")
 }
 
-/// Runs the listing program; its text, or why there is none, goes to `lent`.
+/// Runs the listing program. Its text, or why there is none, goes into `lent`.
 fn list(input: &[u8], lent: &mut Lent) -> u64 {
     let text = run(input).unwrap_or_else(|error| format!("not run: {error}").into_bytes());
     lent.put_text(&text);
@@ -129,7 +129,7 @@ fn run(input: &[u8]) -> std::io::Result<Vec<u8>> {
     let mut child =
         command.stdin(Stdio::piped()).stdout(Stdio::piped()).stderr(Stdio::null()).spawn()?;
     if let Some(mut stdin) = child.stdin.take() {
-        // The program may stop reading where the input is too long.
+        // The program may stop reading if the input is too long.
         let _ = stdin.write_all(input);
     }
     let output = child.wait_with_output()?;

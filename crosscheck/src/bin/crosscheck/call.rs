@@ -78,7 +78,7 @@ impl<'a> Call<'a> {
         }
     }
 
-    /// The read-only inputs; the second is empty where there is none.
+    /// The read-only inputs; the second is empty if there is none.
     pub fn inputs(&self) -> (&'a [u8], &'a [u8]) {
         match *self {
             Call::Check { image } | Call::Fault { image } => (image, &[]),
@@ -129,7 +129,7 @@ impl<'a> Call<'a> {
         }
     }
 
-    /// The inputs in hexadecimal as far as they are short, and the lent sizes.
+    /// The front of the inputs in hexadecimal, and the lent sizes.
     pub fn describe(&self) -> String {
         let (first, second) = self.inputs();
         let sizes = match *self {

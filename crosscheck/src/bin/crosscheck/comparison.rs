@@ -11,7 +11,7 @@ use crosscheck::rules::{Rules, Wrong};
 
 const SHOWN_DIFFERENCES: u64 = 10;
 
-/// A wrong variant, and the comparison that told it from document 01.
+/// A wrong variant, and the comparison that distinguished it from document 01.
 struct Variant {
     wrong: Wrong,
     noticed: Option<(u64, Function)>,
@@ -35,7 +35,7 @@ pub struct Comparison {
     oracle: OracleScore,
 }
 
-/// Images held against the set oracle.
+/// Images compared with the set oracle.
 #[derive(Default)]
 struct OracleScore {
     images: u64,
@@ -61,13 +61,13 @@ impl Comparison {
         }
     }
 
-    /// Begins a stage; gives how many comparisons were made before it.
+    /// Begins a stage. Returns how many comparisons were made before it.
     pub fn enter(&mut self, stage: &'static str) -> u64 {
         self.stage = stage;
         self.compared
     }
 
-    /// Compares one call in its answer and all lent memory; gives the archive's answer.
+    /// Compares one call in its answer and all lent memory. Returns the archive's answer.
     pub fn call(&mut self, call: Call) -> u64 {
         let answered = self.archive.answer(&call, &mut self.real);
         let expected = call.by_rules(Rules::DOCUMENT, &mut self.expected);
@@ -77,7 +77,7 @@ impl Comparison {
         answered.answer
     }
 
-    /// Counts a comparison and shows it if it failed; says whether all was the same.
+    /// Counts a comparison and shows it if it failed. Returns whether everything was the same.
     fn score(&mut self, call: &Call, answered: &Answered, expected: u64) -> bool {
         let answer = answered.answer;
         let same = answered.inputs_intact && answer == expected && self.real == self.expected;
@@ -96,7 +96,8 @@ impl Comparison {
         same
     }
 
-    /// Counts and shows what must hold of the archive's answers besides equality.
+    /// Counts and shows a requirement on the archive's answers, besides equality,
+    /// that does not hold.
     pub fn require(&mut self, holds: bool, else_say: &str) {
         if holds {
             return;
@@ -118,7 +119,7 @@ impl Comparison {
         println!("  memory: {}", place.as_deref().unwrap_or("no difference, or an input changed"));
     }
 
-    /// Holds the wrong variants not yet noticed against the archive's answer.
+    /// Compares the wrong variants that were not noticed yet with the archive's answer.
     fn try_variants(&mut self, call: &Call, answer: u64) {
         for variant in self.variants.iter_mut().filter(|variant| variant.noticed.is_none()) {
             let wrong = call.by_rules(Rules::breaking(variant.wrong), &mut self.expected);
@@ -128,13 +129,13 @@ impl Comparison {
         }
     }
 
-    /// Compares the check of an image and the place of its fault; gives the check's answer.
+    /// Compares the check of an image and the place of its fault. Returns the check's answer.
     pub fn check(&mut self, image: &[u8]) -> u64 {
         self.call(Call::Fault { image });
         self.call(Call::Check { image })
     }
 
-    /// Compares the check of an image, and holds its answer against the set oracle.
+    /// Compares the check of an image, and then its answer with the set oracle.
     pub fn image(&mut self, image: &[u8]) -> u64 {
         let answer = self.check(image);
         let Ok(parsed) = Image::parse(Rules::DOCUMENT, image) else {
@@ -159,7 +160,7 @@ impl Comparison {
         answer
     }
 
-    /// Completing the empty prefix with room enough must list exactly the set.
+    /// Completing the empty prefix with enough room must list exactly the set.
     fn whole_set(&mut self, image: &[u8], set: &[Pair]) {
         let mut records = vec![1];
         records.extend(query_of(&[set.len() as u32]));
@@ -175,7 +176,7 @@ impl Comparison {
         self.score(&call, &answered, set.len() as u64);
     }
 
-    /// Prints the tables; gives how many comparisons and variants came out right and wrong.
+    /// Prints the tables. Returns how many comparisons and variants came out right and wrong.
     pub fn report(&self) -> (u64, u64) {
         self.print_refusals();
         println!("faults in the parts of rule 11: {:?}", &self.list_faults[1..=5]);
@@ -204,7 +205,8 @@ impl Comparison {
         }
     }
 
-    /// Prints and counts the refusals, and parts of rule 11, that a function can give and never gave.
+    /// Prints and counts the refusals, and parts of rule 11, that a function can
+    /// give but never gave.
     fn never_seen(&self) -> u64 {
         let mut never = 0;
         for part in (1..=5).filter(|part| self.list_faults[*part] == 0) {

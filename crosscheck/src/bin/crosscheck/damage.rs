@@ -18,7 +18,7 @@ pub fn damaged(random: &mut Random, image: &Image) -> Vec<u8> {
     draft.bytes
 }
 
-/// Lists one label more, perhaps one that is there, or one label less.
+/// Lists one label more, perhaps one that is already there, or one label less.
 fn resize_map(random: &mut Random, image: &mut Image) {
     let mut labels = image.map.labels.clone();
     if random.one_in(2) {
@@ -29,7 +29,7 @@ fn resize_map(random: &mut Random, image: &mut Image) {
     image.map = CodeMap::new(Rules::DOCUMENT, labels);
 }
 
-/// The bytes of an image, with the sizes they had at first.
+/// The bytes of an image, with its original sizes.
 struct Draft {
     bytes: Vec<u8>,
     slots: usize,
@@ -59,7 +59,7 @@ impl Draft {
         self.children_at() + 4 * self.edges
     }
 
-    /// Changes four bytes as a number; little-endian, and nothing where they are cut off.
+    /// Changes the little-endian number at `at`; does nothing if it is cut off.
     fn change(&mut self, at: usize, change: impl FnOnce(u32) -> u32) {
         if let Some(Ok(bytes)) = self.bytes.get_mut(at..at + 4).map(<&mut [u8; 4]>::try_from) {
             *bytes = change(u32::from_le_bytes(*bytes)).to_le_bytes();
@@ -109,7 +109,7 @@ impl Draft {
         }
     }
 
-    /// More slots or edges and so much less map: the sum stays, at least in 32 bits.
+    /// More slots or edges and a map shorter by as much: the sum stays, at least in 32 bits.
     fn wrapped_sum(&mut self, random: &mut Random) {
         let slots = random.pick(&[0, 1, 1, 2, 5, 1_000]);
         let edges = random.pick(&[0, 1, slots]);
@@ -125,7 +125,7 @@ impl Draft {
             1 => self.bytes.truncate(len - random.below(len.min(5) + 1)),
             2 => self.bytes.resize(len + random.between(1, 9), random.pick(&[0, 1, 0xEE])),
             _ => {
-                // A map too short for its head, with a length that says so.
+                // A map too short for its head, with a header that gives its length.
                 let short = random.below(6);
                 self.bytes.truncate(map_at + short);
                 self.change(16, |_| short as u32);
@@ -219,7 +219,7 @@ impl Draft {
         }
     }
 
-    /// A word of a slot that is not used.
+    /// A word of an unused slot.
     fn unused_slot(&mut self, random: &mut Random) {
         let zero = |slot: &usize| {
             self.word(HEADER_LEN + 8 * slot) == 0 && self.word(HEADER_LEN + 8 * slot + 4) == 0

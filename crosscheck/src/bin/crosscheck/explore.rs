@@ -36,7 +36,7 @@ pub fn any_places(random: &mut Random) -> usize {
     }
 }
 
-/// The whole of a small or middling image of `keys`.
+/// Compares all functions over a small or medium-sized image of `keys`.
 pub fn explore(
     comparison: &mut Comparison,
     random: &mut Random,
@@ -99,7 +99,7 @@ pub fn complete_at_borders(
     }
 }
 
-/// Where the count and each record end in room enough; at least the count's end.
+/// Where the count and each record end, given enough room; at least the end of the count.
 fn record_ends(image: &[u8], prefix: &[u8]) -> Vec<usize> {
     let mut ends = vec![5];
     let Ok(image) = Image::parse(Rules::DOCUMENT, image) else {
@@ -120,7 +120,7 @@ fn record_ends(image: &[u8], prefix: &[u8]) -> Vec<usize> {
     ends
 }
 
-/// The empty query, each key and each key's front.
+/// Searches for the empty query, and for every front part of each key.
 pub fn search_all_fronts(comparison: &mut Comparison, image: &[u8], keys: &[Key]) {
     search(comparison, image, &[], PLACE_WORDS);
     for key in keys {

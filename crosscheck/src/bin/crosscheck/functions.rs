@@ -1,5 +1,6 @@
-//! The archive's C functions, declared for this program and for the benchmark, which
-//! takes this file in. It is no module of the library: that has nothing of the archive.
+//! The archive's C functions, declared for this program and for the benchmark,
+//! which includes this file. It is not a module of the library, which does not
+//! use the archive.
 
 #[link(name = "lxtr_c", kind = "static")]
 extern "C" {

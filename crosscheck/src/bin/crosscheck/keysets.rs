@@ -8,7 +8,7 @@ use std::collections::BTreeSet;
 /// Labels at the edges of the scalar values and of their encodings.
 pub const EDGE_LABELS: [u32; 11] =
     [0, 1, 0x7F, 0xFF, 0x100, 0xD7FF, 0xE000, 0xFFFF, 0x1_0000, 0x10_0000, 0x10_FFFF];
-/// Numbers that are no scalar values.
+/// Numbers that are not scalar values.
 pub const NO_SCALARS: [u32; 6] = [0xD800, 0xDABC, 0xDFFF, 0x11_0000, 0x8000_0061, 0xFFFF_FFFF];
 
 /// An alphabet of one of several kinds.
@@ -25,7 +25,7 @@ pub fn alphabet(random: &mut Random) -> Vec<u32> {
     }
 }
 
-/// Up to `count` keys over an alphabet; half of them go on from a key's front.
+/// Up to `count` keys over an alphabet; half of them extend the front of an earlier key.
 pub fn keys_over(random: &mut Random, alphabet: &[u32], count: usize, longest: usize) -> Vec<Key> {
     let mut keys: Vec<Key> = Vec::new();
     for _ in 0..count {

@@ -53,13 +53,13 @@ impl Lent {
         (&mut self.bytes[self.from..bytes], &mut self.words[GUARD..words])
     }
 
-    /// Holds a program's text in place of lent bytes.
+    /// Holds a program's text instead of lent bytes.
     pub fn put_text(&mut self, text: &[u8]) {
         self.prepare(text.len(), 0);
         self.bytes().copy_from_slice(text);
     }
 
-    /// Where and how two memories first differ, places counted from the lent slice.
+    /// Where and how two memories first differ, with places counted from the lent slice.
     pub fn first_difference(&self, other: &Lent) -> Option<String> {
         let at = |place: usize, from: usize| place as isize - from as isize;
         let byte = self.bytes.iter().zip(&other.bytes).position(|(a, b)| a != b);

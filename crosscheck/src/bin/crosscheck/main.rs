@@ -1,11 +1,11 @@
 //! Compares the proved archive with the independent implementation.
 //!
 //! Every comparison is one call of a library function, or one run of the listing
-//! program, held against the independent answer: the 64-bit number, every byte
-//! and word of lent memory with guard zones around it, or the program's text.
-//! Beside that, the check and the completion of the empty prefix are held
-//! against the set oracle, and wrong variants of the independent implementation
-//! take part in the same comparisons: each must be noticed by a difference.
+//! program, and the independent answer to it: the 64-bit number, every byte and
+//! word of lent memory with guard zones around it, or the program's text. Besides
+//! that, the check and the completion of the empty prefix are compared with the
+//! set oracle, and wrong variants of the independent implementation take part in
+//! the same comparisons: each must be noticed by a difference.
 //!
 //! Run with `cargo run --release --offline`, in this package's folder, after the
 //! archive `../target/staticlib/liblxtr_c.a` and the listing program
@@ -31,7 +31,7 @@ use stages::{bad_lists, damaged, edges, examples, large, lists, placed, program,
 use std::process::ExitCode;
 use std::time::Instant;
 
-/// The argument at a place, as a number.
+/// The argument at a place as a number, or the default.
 fn argument(place: usize, default: u64) -> u64 {
     let given = std::env::args().nth(place);
     given.map_or(default, |text| text.parse().expect("arguments are numbers"))

@@ -1,6 +1,6 @@
-//! A second placer with random bases, so that an image of a set has other slots,
-//! other codes, unused labels and spare slots than the builder's; and images
-//! whose lists agree with parents that never reach slot 1.
+//! A second placer with random bases, so that an image of a set has other slots
+//! and codes than the builder's, unused labels and spare slots; and images whose
+//! lists agree with parents that never reach slot 1.
 
 use crosscheck::common::SLOTS;
 use crosscheck::image::{CodeMap, Image, Node, TOP_BIT};
@@ -34,7 +34,8 @@ pub fn any_code_order(random: &mut Random, pairs: &Pairs) -> Vec<u32> {
 }
 
 /// An image of the pairs with random bases and `spare` unused slots at its end.
-/// Key lengths are not limited, so that too long chains can be made as well.
+/// Key lengths are not limited, so that chains that are too long can be made as
+/// well.
 pub fn place(random: &mut Random, pairs: &Pairs, labels: Vec<u32>, spare: usize) -> Image {
     let map = CodeMap::new(Rules::DOCUMENT, labels);
     let codes_below = codes_below(pairs, &map);
@@ -132,8 +133,9 @@ pub fn add_ring(random: &mut Random, image: &mut Image, length: usize) {
     image.relist();
 }
 
-/// Hangs a slot under another one wherever the code allows it, lists kept
-/// right. The outcome may be an image of another set, too deep, or a cycle.
+/// Moves a slot to another parent where the code allows it, and keeps the lists
+/// right. The result may be an image of another set, be too deep, or have a
+/// cycle.
 pub fn rehang(random: &mut Random, image: &mut Image) {
     let inner: Vec<u32> = image.used_from_2().filter(|slot| !image.node(*slot).is_leaf()).collect();
     for _ in 0..40 {

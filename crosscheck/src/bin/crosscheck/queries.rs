@@ -1,4 +1,4 @@
-//! Queries for an image: present, absent, too long, odd, with foreign labels.
+//! Queries for an image: present, absent, too long, cut within a label, or with foreign labels.
 
 use crate::keysets::{EDGE_LABELS, NO_SCALARS};
 use crosscheck::common::query_of;
@@ -60,7 +60,7 @@ fn any_label(random: &mut Random, image: &Image) -> u32 {
     }
 }
 
-/// Labels that follow steps of the image as long as there are some.
+/// Labels that follow steps of the image while there are any.
 pub fn walk(random: &mut Random, image: &Image, length: usize) -> Vec<u32> {
     let mut slot = 1;
     let mut labels = Vec::new();
@@ -77,7 +77,7 @@ pub fn walk(random: &mut Random, image: &Image, length: usize) -> Vec<u32> {
     labels
 }
 
-/// Codes by which a step exists; some of them where a map lists many.
+/// Codes by which a step exists; only some of them if the map lists many labels.
 fn steps_from(random: &mut Random, image: &Image, slot: u32) -> Vec<u32> {
     let (codes, base) = (image.map.len() as u32, image.node(slot).low_base());
     let step = |code: &u32| {

@@ -37,7 +37,7 @@ fn listed_labels(comparison: &mut Comparison, random: &mut Random) {
     }
 }
 
-/// Key lists with 4,095 and 4,096 distinct labels, with work enough and too little.
+/// Key lists with 4,094 to 4,096 distinct labels, with enough work and with too little.
 fn used_labels(comparison: &mut Comparison) {
     for labels in [4_094, 4_095, 4_096] {
         let list = to_bytes(&one_label_each(labels));
@@ -56,7 +56,7 @@ fn used_labels(comparison: &mut Comparison) {
     }
 }
 
-/// Lists of 32,767 to 32,769 keys; work for a few slots refuses them early.
+/// Lists of 32,767 to 32,769 keys; with work for few slots, the builder refuses them early.
 fn key_counts(comparison: &mut Comparison) {
     for count in [32_767, 32_768, 32_769] {
         let keys: Vec<Key> = (0..count).map(|key| vec![key / 256, key % 256]).collect();

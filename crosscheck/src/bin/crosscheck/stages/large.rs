@@ -31,8 +31,8 @@ pub fn run(comparison: &mut Comparison, random: &mut Random) {
     full_table(comparison);
 }
 
-/// Nearly as many keys as slots can hold, and the most that a list may have, for
-/// which no number of slots is enough: each key needs two of its own.
+/// Nearly as many keys as the slots can hold, and as many as a list may have, for
+/// which there are never enough slots: each key needs two of its own.
 fn full_table(comparison: &mut Comparison) {
     let keys: Vec<Key> = (0..8)
         .flat_map(|first| (0..4_087).map(move |second| vec![first, 0x100 + second]))

@@ -21,7 +21,7 @@ pub fn run(comparison: &mut Comparison, random: &mut Random, amount: usize) {
     }
 }
 
-/// Some hundreds of keys.
+/// Several hundred keys.
 fn middling(random: &mut Random) -> Vec<Key> {
     let alphabet = keysets::alphabet(random);
     let count = random.between(200, 900);

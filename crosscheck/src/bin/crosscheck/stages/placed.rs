@@ -1,5 +1,6 @@
 //! Images from the second placer: other slots, codes, values and spare slots for
-//! the same sets; chains at the depth limit; cycles and re-hung slots.
+//! the same sets; chains at the depth limit; cycles and slots moved to other
+//! parents.
 
 use crate::call::Call;
 use crate::comparison::Comparison;
@@ -59,7 +60,7 @@ fn same_set_elsewhere(comparison: &mut Comparison, random: &mut Random, keys: &[
     }
 }
 
-/// One key of a length around the limit, with some of its fronts; searched far along.
+/// One key of a length near the limit, with some of its front parts; searched at many lengths.
 fn chain(comparison: &mut Comparison, random: &mut Random, length: usize) {
     let alphabet = keysets::alphabet(random);
     let key: Key = (0..length).map(|_| random.pick(&alphabet)).collect();

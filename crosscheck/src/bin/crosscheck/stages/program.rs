@@ -23,7 +23,7 @@ pub fn run(comparison: &mut Comparison, random: &mut Random, amount: usize) {
     }
 }
 
-/// The forms that each rule of the listing program needs at least once.
+/// Inputs of each form that a rule of the listing program needs at least once.
 fn fixed_inputs(random: &mut Random) -> Vec<Vec<u8>> {
     let edges: Vec<Key> = EDGE_LABELS.iter().map(|label| vec![*label, 0, *label]).collect();
     let equal = vec![vec![1], vec![1]];

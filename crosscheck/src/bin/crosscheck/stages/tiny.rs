@@ -1,5 +1,5 @@
-//! Small things taken whole: every change of one byte in an image, every image of
-//! three slots over a few words, every set of the shortest keys.
+//! Small cases, taken exhaustively: every change of one byte in an image, every
+//! image of three slots over a few words, every set of the shortest keys.
 
 use crate::call::Call;
 use crate::comparison::Comparison;
@@ -21,7 +21,7 @@ pub fn run(comparison: &mut Comparison) {
     short_key_sets(comparison);
 }
 
-/// Every byte takes every value; each kind of call meets every byte.
+/// Every byte takes every value; every kind of call is made for each byte.
 fn every_byte_changed(comparison: &mut Comparison, image: &[u8]) {
     let query = query_of(&[0x6E, 0x61]);
     for at in 0..image.len() {

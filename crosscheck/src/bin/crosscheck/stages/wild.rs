@@ -1,6 +1,6 @@
 //! Images that pass 1 to 8 and little else, on which searches still walk: steps
-//! to slots 0 and 1, leaves with children, ends that are no leaf, falling
-//! offsets, labels listed twice or no scalars.
+//! to slots 0 and 1, leaves with children, ends that are not leaves, falling
+//! offsets, labels listed twice or not scalar values.
 
 use crate::call::Call;
 use crate::comparison::Comparison;
