@@ -2,9 +2,9 @@
 // places in code order.
 mod labels; // the labels
 mod counts; // how many keys contain each
-pub mod guesses; // a label looked up by a guess, also in the crate above
+pub mod guesses; // a label looked up by a guess, also for lxtr_place
 mod ranks; // their order and their codes
-pub mod rising; // rising numbers: the labels here, and the codes of a slot's children in the crate above
+pub mod rising; // rising numbers: the labels here, and the codes of children in lxtr_place
 
 ghost use mathlib.Core.Path.{_≡_};
 ghost use mathlib.Core.List.{[]};
