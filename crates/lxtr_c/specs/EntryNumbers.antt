@@ -1,12 +1,11 @@
 -- The number that an entry answers is that of the operation's answer.
-use Prim.Native.Nat.{ℕ, _*_, _/_, _≤_}
+use Prim.Native.Nat.{ℕ, _*_, _/_, _^_, _<_}
 use native.Mathlib.Omega.{arith}
 use mathlib.Core.Path.{_≡_, ap, _∙_}
 use mathlib.Core.List.{List}
 use mathlib.Core.Bool.{false}
 use lib.ListN.{length}
 use lib.Seq.{length-take-le}
-use Rattle.lxtr_spec.specs.Labels.{maxLabels}
 use Rattle.lxtr_spec.specs.Refusals.{unlessRefused, checkOf}
 use Rattle.lxtr_spec.specs.FaultPlaces.{faultOf}
 use Rattle.lxtr_spec.specs.Searches.{exactOf, prefixesOf, LongestAnswer, longestLength, longestOf, probeOf}
@@ -14,6 +13,7 @@ use Rattle.lxtr_spec.specs.Completions.{CompletionAnswer, completionOf}
 use Rattle.lxtr_spec.specs.Builds.{BuildAnswer, buildOf}
 use Rattle.lxtr_spec.specs.Answers.{found, exactMeans, probeMeans}
 use Rattle.lxtr_spec.specs.HostNumbers.{hostNumber, valueNumbered, faultNumbered, checkNumber, faultNumber, exactNumber, probeNumber, longestNumber, HostPrefixes, alternately, atFront, prefixesNumber, placesAfter, hostPrefixesOf, HostCompletion, completionNumber, hostCompletionOf, HostBuild, builtNumber, hostBuildOf}
+use Rattle.lxtr_laws.specs.Limit.{length-fits-byte}
 use Rattle.lxtr_laws.specs.RefusalChains.{stands}
 use Rattle.lxtr_search.specs.Kept.{longest-bytes, longest-limit}
 use Rattle.lxtr_spec.specs.declared.Verdict.{Verdict}
@@ -50,8 +50,8 @@ module _ (b : List ℕ) where
           let whole : length part ≡ 4 * longestLength b q = ap (λ (a : LongestAnswer). length (a .part)) e ∙ length-take-le (4 * longestLength b q) q (longest-bytes b q) in
           omega arith
 
-      pub longest-fits : length part / 4 ≤ maxLabels
-      longest-fits = omega (arith, longest-labels, longest-limit b q)
+      pub longest-fits : length part / 4 < 2 ^ 32
+      longest-fits = omega (arith, longest-labels, longest-limit b q, length-fits-byte)
 
       pub longest-number : (n : ℕ) → n ≡ hostNumber k false false (length part / 4) → n ≡ longestNumber b q
       unfolding longestNumber longestOf

@@ -9,10 +9,11 @@ use native.Mathlib.Numerals.{add-one}
 use native.Mathlib.Omega.{arith}
 use lib.ListN.{length, length-append}
 use Rattle.lxtr_spec.specs.Ranges.{concatFrom}
-use Rattle.lxtr_spec.specs.Labels.{maxLabels, lengthCount, Pair}
+use Rattle.lxtr_spec.specs.Labels.{lengthCount, Pair}
 use Rattle.lxtr_spec.specs.Image.{slotCount, childCount, isLeaf, offset, child, listWidth}
 use Rattle.lxtr_spec.specs.Completions.{entryPairs, listFrom}
 use Rattle.lxtr_laws.specs.RangeTests.{concat-more}
+use Rattle.lxtr_laws.specs.Limit.{length-fits-byte}
 use Rattle.lxtr_laws.specs.Facts.{Accepted}
 use Rattle.lxtr_laws.specs.EntryPlaces.{children-differ}
 use Rattle.lxtr_laws.specs.ListEntries.{sorted-lists, child-used}
@@ -57,10 +58,9 @@ module _ (b : List ℕ) where
         omega (arith, rw (a .last, total-one-more (childCount b) (λ j. most k (child b j))) at lists, part, most-all k)
 
     pub list-few : (k n : ℕ) (key : List ℕ) → n < slotCount b → k ≤ lengthCount → length (listFrom b k n key) < 2 ^ 24
-    unfolding maxLabels
     list-few k n key h l =
         let f = a .framed in
-        let labels : k ≤ 2 ^ 8 = omega arith in
+        let labels : k ≤ 2 ^ 8 = omega (arith, length-fits-byte) in
         let children : childCount b ≤ 2 ^ 16 - 2 = omega (arith, f .children, f .slots) in
         let all : k * childCount b ≤ 2 ^ 8 * (2 ^ 16 - 2) = mul-le-mul labels children in
         omega (arith, list-most k n key, total-has (slotCount b) n (most k) h, most-all k)

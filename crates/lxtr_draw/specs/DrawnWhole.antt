@@ -1,5 +1,5 @@
 -- The lines of a drawing go whole into a line of LINE_ROOM bytes, and so does what is drawn of a slot, of a step and of an entry.
-use Prim.Native.Nat.{ℕ, _≤_}
+use Prim.Native.Nat.{ℕ, _+_, _*_, _≤_}
 use native.Mathlib.Omega.{arith}
 use mathlib.Core.Path.{_≡_, refl}
 use mathlib.Core.List.{List, []}
@@ -9,17 +9,17 @@ use lib.ListN.{length}
 use lib.Dec.{leb, eqb}
 use Rattle.lxtr_spec.specs.Image.{isLeaf, parent, codeTo, labelCount}
 use Rattle.lxtr_spec.specs.declared.Fault.{Fault}
-use Rattle.lxtr_command_spec.specs.Forms.{filled}
+use Rattle.lxtr_command_spec.specs.Forms.{takes, filled}
 use Rattle.lxtr_command_spec.specs.Commands.{asciiFrom, ascii}
 use Rattle.lxtr_command_spec.specs.Drawings.{slotLine, stepLine, entryLine, isWrongSlot, isWrongEntry, isDrawn, slotText, hasStep, stepText, listOf, entryText}
-use Rattle.lxtr_text.specs.Rooms.{lineRoom, form-fits}
+use Rattle.lxtr_text.specs.Rooms.{formRoom, lineRoom, marks, form-fits}
 
--- a form of no more than 102 bytes, whatever the numbers
-fits : (form ns : List ℕ) → leb (length form) 102 ≡ true → length (filled form ns) ≤ lineRoom
-fits form ns e = form-fits form ns (leb-true (length form) 102 e)
+-- a form that has room with ten bytes for each mark, whatever the numbers
+fits : (form ns : List ℕ) → leb (length form + 9 * marks form) formRoom ≡ true → length (filled form ns) ≤ lineRoom
+fits form ns e = form-fits form ns (leb-true (length form + 9 * marks form) formRoom e)
 
 pub slot-fits : (b : List ℕ) (s : ℕ) (wrong : Bool) → length (slotLine b s wrong) ≤ lineRoom
-unfolding slotLine asciiFrom ascii
+unfolding slotLine asciiFrom ascii takes marks
 slot-fits b s wrong = go (isLeaf b s) refl
   where
     go : (t : Bool) → isLeaf b s ≡ t → length (slotLine b s wrong) ≤ lineRoom
@@ -27,7 +27,7 @@ slot-fits b s wrong = go (isLeaf b s) refl
     go false e = rw (slotLine, e) (fits _ _ refl)
 
 pub step-fits : (b : List ℕ) (p s : ℕ) → length (stepLine b p s) ≤ lineRoom
-unfolding stepLine asciiFrom ascii
+unfolding stepLine asciiFrom ascii takes marks
 step-fits b p s = go (eqb (codeTo b p s) 0) (leb (codeTo b p s) (labelCount b)) refl refl
   where
     go : (t u : Bool) → eqb (codeTo b p s) 0 ≡ t → leb (codeTo b p s) (labelCount b) ≡ u → length (stepLine b p s) ≤ lineRoom
@@ -36,7 +36,7 @@ step-fits b p s = go (eqb (codeTo b p s) 0) (leb (codeTo b p s) (labelCount b)) 
     go false false e f = rw (stepLine, e, f) (fits _ _ refl)
 
 pub entry-fits : (b : List ℕ) (p j : ℕ) (wrong : Bool) → length (entryLine b p j wrong) ≤ lineRoom
-unfolding entryLine asciiFrom ascii
+unfolding entryLine asciiFrom ascii takes marks
 entry-fits b p j wrong = fits _ _ refl
 
 -- nothing, or a line

@@ -17,6 +17,7 @@ pub mod Leading
 pub mod Inserted
 pub mod OrderedLists
 pub mod Runs
+pub mod Limit
 pub mod Lengths
 pub mod Overlays
 pub mod Facts

@@ -11,11 +11,12 @@ use mir.Val.{Fits}
 use borrow.Author.Needs.{fits-under}
 use lib.ListN.{getD, length, set, length-set}
 use lib.Seq.{getD-set-same, getD-set-other}
-use Rattle.lxtr_spec.specs.Labels.{maxLabels, lengthCount, Pair}
+use Rattle.lxtr_spec.specs.Labels.{lengthCount, Pair}
 use Rattle.lxtr_spec.specs.KeyLists.{keysAt, maxKeys, keyCount, nextKey, keyAt, keysFrom, pairsOf}
 use Rattle.lxtr_spec.specs.CodeMaps.{mapOf, codeIn, labelWith}
 use Rattle.lxtr_spec.specs.Placing.{checkAt, place}
 use Rattle.lxtr_spec.specs.Builds.{slotsIn, placedIn}
+use Rattle.lxtr_laws.specs.Limit.{length-fits-byte}
 use Rattle.lxtr_build_laws.specs.KeyListFacts.{WholeKeys, KeysPassed}
 use Rattle.lxtr_build_laws.specs.CodeTables.{codeBy, labelBy, CodeTables}
 use Rattle.lxtr_build_laws.specs.KeyReading.{whole-here, whole-on, key-starts}
@@ -55,11 +56,12 @@ module _ (b : List ℕ) (n : ℕ) (e : n ≡ keyCount b) where
 pub record StartsPut (b starts : List ℕ) (i : ℕ) : Type 0 where
   pub each : (j : ℕ) → j < i → getD starts j 0 ≡ placeOf b j keysAt
 
+-- (a key takes no more than 2^10 bytes of the list)
 pub record Starting (b starts₀ starts : List ℕ) (at i : ℕ) : Type 0 where
   pub passed : i ≤ keyCount b
   pub size : length starts ≡ length starts₀
   pub whole : WholeKeys b (keyCount b - i) at
-  pub small : at ≤ keysAt + 257 * i
+  pub small : at ≤ keysAt + 2 ^ 10 * i
   pub is : at ≡ placeOf b i keysAt
   pub put : StartsPut b starts i
 
@@ -91,12 +93,12 @@ module _ (b starts₀ : List ℕ) (k : KeysPassed b) where
         go j l (no o) = getD-set-other starts i j at 0 o ∙ s .put .each j (omega arith)
 
     pub starting-turn : (n at′ : ℕ) → n ≡ keyCount b → i < n → keyCount b < length starts₀ → at′ ≡ nextKey b at → Starting b starts₀ (set starts i at) at′ (i + 1)
-    unfolding nextKey maxLabels
+    unfolding nextKey
     starting-turn n at′ c h long e = record {
       passed = omega arith;
       size = starting-size;
       whole = rw e (whole-on b (keyCount b) i at (omega arith) (s .whole));
-      small = omega (arith, e, s .small, whole-here b (keyCount b) i at (omega arith) (s .whole) .short);
+      small = omega (arith, e, s .small, whole-here b (keyCount b) i at (omega arith) (s .whole) .short, length-fits-byte);
       is = e ∙ ap (nextKey b) (s .is) ∙ sym (place-next b i keysAt);
       put = put-more (starting-inside long);
     }

@@ -14,9 +14,12 @@ use Rattle.lxtr_command_spec.specs.Utf8.{tailByte, utf8}
 use Rattle.lxtr_command_spec.specs.Forms.{isControl, shown, quoted, nextNumber, piece, takes, filled}
 use Rattle.lxtr_text.specs.Appends.{Appended}
 
--- LINE_ROOM
+-- room for a form, or for what a line has besides the labels of a key; with the labels it is LINE_ROOM
+abbrev pub formRoom : ℕ
+formRoom = 192
+
 abbrev pub lineRoom : ℕ
-lineRoom = 192 + 13 * maxLabels
+lineRoom = formRoom + 13 * maxLabels
 
 -- a text that is not longer than the line is all there
 pub all-there : (line text line′ : List ℕ) (r : ℕ) → Appended line 0 text line′ r → length text ≤ length line → (r ≡ length text) × (take r line′ ≡ text)
@@ -61,24 +64,31 @@ pub shown-length : (x : ℕ) → length (shown x) ≤ 4
 unfolding shown
 shown-length x = either (isScalar x && not (isControl x)) 4 (utf8 x) (utf8 0xFFFD) (utf8-length x) (utf8-length 0xFFFD)
 
--- ---- forms: each of their bytes gives ten or fewer
+-- ---- forms: a mark gives ten bytes or fewer, and any other byte itself
 
-piece-length : (c : ℕ) (ns : List ℕ) → length (piece c ns) ≤ 10
-unfolding piece quoted
-piece-length c ns =
-    let n = nextNumber ns in
-    let at : length (quoted n) ≤ 10 = omega (arith, either (eqb n 0x22 || eqb n 0x5C) 4 (0x5C ∷ n ∷ []) (shown n) (omega arith) (shown-length n)) in
-    let later : length (cond (eqb c 0x40) (quoted n) (c ∷ [])) ≤ 10 = either (eqb c 0x40) 10 (quoted n) (c ∷ []) at (omega arith) in
-    either (eqb c 0x25) 10 (decimal n) (cond (eqb c 0x24) (hexadecimal n) (cond (eqb c 0x40) (quoted n) (c ∷ []))) (decimal-length n)
-    (either (eqb c 0x24) 10 (hexadecimal n) (cond (eqb c 0x40) (quoted n) (c ∷ [])) (omega (arith, hexadecimal-length n)) later)
+unfoldable pub marks : List ℕ → ℕ
+marks [] = 0
+marks (c ∷ f) = cond (takes c) 1 0 + marks f
 
-pub form-length : (f ns : List ℕ) → length (filled f ns) ≤ 10 * length f
-unfolding filled
+piece-length : (c : ℕ) (ns : List ℕ) → length (piece c ns) ≤ 1 + 9 * cond (takes c) 1 0
+unfolding piece takes quoted
+piece-length c ns = go (eqb c 0x25) (eqb c 0x24) (eqb c 0x40)
+  where
+    n : ℕ
+    n = nextNumber ns
+
+    go : (p d a : Bool) → length (cond p (decimal n) (cond d (hexadecimal n) (cond a (quoted n) (c ∷ [])))) ≤ 1 + 9 * cond (p || (d || a)) 1 0
+    go true d a = decimal-length n
+    go false true a = omega (arith, hexadecimal-length n)
+    go false false true = omega (arith, either (eqb n 0x22 || eqb n 0x5C) 4 (0x5C ∷ n ∷ []) (shown n) (omega arith) (shown-length n))
+    go false false false = omega arith
+
+pub form-length : (f ns : List ℕ) → length (filled f ns) ≤ length f + 9 * marks f
+unfolding filled marks
 form-length [] ns = omega arith
 form-length (c ∷ f) ns =
     let rest = cond (takes c) (drop 1 ns) ns in
     omega (arith, length-append (piece c ns) (filled f rest), piece-length c ns, form-length f rest)
 
-pub form-fits : (f ns : List ℕ) → length f ≤ 102 → length (filled f ns) ≤ lineRoom
-unfolding maxLabels
+pub form-fits : (f ns : List ℕ) → length f + 9 * marks f ≤ formRoom → length (filled f ns) ≤ lineRoom
 form-fits f ns h = omega (arith, form-length f ns)

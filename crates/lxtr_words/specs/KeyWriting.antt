@@ -9,9 +9,9 @@ use borrow.Author.Tests.{le-ltb}
 use lib.ListN.{getD, length, take, drop, set, length-append, length-drop, drop-of-length-le}
 use lib.Seq.{drop-cons, drop-drop, take-all}
 use Rattle.lxtr_spec.specs.Numbers.{beBytes, beWords}
-use Rattle.lxtr_spec.specs.Labels.{maxLabels}
 use Rattle.lxtr_spec.specs.Samples.{keyRecords, keyList}
 use Rattle.lxtr_laws.specs.ByteOrders.{big, words-size}
+use Rattle.lxtr_laws.specs.Limit.{length-fits-byte}
 use Rattle.lxtr_laws.specs.Members.{member-at}
 use Rattle.lxtr_laws.specs.Overlays.{over, over-length, over-none, over-set, over-over, over-comm}
 use Rattle.lxtr_command_spec.specs.declared.Decoded.{Decoded}
@@ -43,6 +43,11 @@ records-end : (t l : List ℕ) (i : ℕ) → length l ≤ i → keyRecords (drop
 unfolding keyRecords
 records-end t l i h = ap keyRecords (drop-of-length-le (keysOf t l) {i = i} (omega (arith, keys-length t l)))
 
+-- a key's length fits a byte
+module _ (t : List ℕ) (at : ℕ) (w : WordRight t at) where
+  pub length-byte : (n : ℕ) → n ≡ length (keyOf t at) → n < 2 ^ 8
+  length-byte n e = omega (arith, key-short t at w, length-fits-byte)
+
 -- ---- the length of the key list, summed up key by key
 
 -- the labels of a word were counted
@@ -50,13 +55,13 @@ module _ (t : List ℕ) (at : ℕ) (w : WordRight t at) (word : List ℕ) (d : D
   pub count-is : d .count ≡ length (keyOf t at)
   count-is = key-count t at w word d is e
 
-  pub count-small : d .count ≤ maxLabels
-  unfolding maxLabels
-  count-small = omega (arith, count-is, key-short t at w)
+  pub count-small : d .count < 2 ^ 8
+  count-small = length-byte t at w (d .count) count-is
 
+-- (a key takes no more than 2^10 bytes of the list)
 pub record Summed (t l : List ℕ) (total i : ℕ) : Type 0 where
   pub to : i ≤ length l
-  pub small : total ≤ 5 + 257 * i
+  pub small : total ≤ 5 + 2 ^ 10 * i
   pub left : length (keyList (keysOf t l)) ≡ total + length (keyRecords (drop i (keysOf t l)))
 
 module _ (t l : List ℕ) where
@@ -65,8 +70,7 @@ module _ (t l : List ℕ) where
 
   module _ (total i : ℕ) (s : Summed t l total i) where
     -- n labels more
-    pub sum-next : (n : ℕ) → i < length l → n ≡ length (keyOf t (getD l i 0)) → n ≤ maxLabels → Summed t l (total + (1 + 4 * n)) (i + 1)
-    unfolding maxLabels
+    pub sum-next : (n : ℕ) → i < length l → n ≡ length (keyOf t (getD l i 0)) → n < 2 ^ 8 → Summed t l (total + (1 + 4 * n)) (i + 1)
     sum-next n h is small = record { to = omega arith; small = omega (arith, s .small); left = omega (arith, s .left, records-less t l i h) }
 
     pub sum-end : length l ≤ i → total ≡ length (keyList (keysOf t l))
@@ -101,10 +105,6 @@ module _ (t : List ℕ) (s : ℕ) (w : WordRight t s) (out : List ℕ) (at : ℕ
 
   -- and then the length byte before them
   module _ (n : ℕ) (count : n ≡ length (keyOf t s)) where
-    pub length-byte : n < 2 ^ 8
-    unfolding maxLabels
-    length-byte = omega (arith, key-short t s w)
-
     pub key-put : (out′ : List ℕ) → at + 1 + 4 * length (keyOf t s) ≤ length out → out′ ≡ over out (at + 1) (beWords (keyOf t s))
         → set out′ at n ≡ over out at (length (keyOf t s) ∷ beWords (keyOf t s))
     key-put out′ fits e =

@@ -43,11 +43,11 @@ examples =
     -- a prefix first; é behind z
     ∷ lists (0x61 ∷ 0x62 ∷ 0x0A ∷ 0x61 ∷ 0x0A ∷ []) ((0x61 ∷ []) ∷ (0x61 ∷ 0x62 ∷ []) ∷ [])
     ∷ lists (0xC3 ∷ 0xA9 ∷ 0x0A ∷ 0x7A ∷ []) ((0x7A ∷ []) ∷ (0xE9 ∷ []) ∷ [])
-    -- 64 labels
-    ∷ lists (replicate 64 0x61) (replicate 64 0x61 ∷ [])
-    -- line 2 is not UTF-8; line 1 has 65 labels, and line 2 is not UTF-8
+    -- as many labels as a key may have
+    ∷ lists (replicate maxLabels 0x61) (replicate maxLabels 0x61 ∷ [])
+    -- line 2 is not UTF-8; line 1 has one label too many, and line 2 is not UTF-8
     ∷ refuses (0x61 ∷ 0x0A ∷ 0xFF ∷ 0x0A ∷ 0x62 ∷ []) 1 2
-    ∷ refuses (replicate 65 0x61 ++ (0x0A ∷ 0xFF ∷ [])) 2 1
+    ∷ refuses (replicate (maxLabels + 1) 0x61 ++ (0x0A ∷ 0xFF ∷ [])) 2 1
     ∷ []
 
 pub word-examples-hold : AllHold Holds examples

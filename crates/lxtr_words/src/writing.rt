@@ -2,10 +2,9 @@
 // four bytes each, big-endian.
 ghost use mathlib.Core.Path.{_≡_};
 ghost use mathlib.Core.List.{_∷_};
-ghost use Prim.Native.Nat.{_+_, _*_, _≤_};
+ghost use Prim.Native.Nat.{_+_, _*_, _^_, _≤_, _<_};
 ghost use lib.ListN.{length};
 ghost use Rattle.lxtr_spec.specs.Numbers.{beWords};
-ghost use Rattle.lxtr_spec.specs.Labels.{maxLabels};
 ghost use Rattle.lxtr_spec.specs.KeyLists.{maxKeys};
 ghost use Rattle.lxtr_spec.specs.Samples.{keyRecords, keyList};
 ghost use Rattle.lxtr_laws.specs.Overlays.{over};
@@ -19,7 +18,7 @@ use lxtr_utf8::decode;
 // How many labels the word at `start` has.
 fn label_count(text: &[u8], start: usize) -> usize
     requires { ⌜ WordRight (now text) start ⌝ }
-    ensures { λ r. ⌜ (r ≡ length (keyOf (now (text .entry)) start)) × (r ≤ maxLabels) ⌝ }
+    ensures { λ r. ⌜ (r ≡ length (keyOf (now (text .entry)) start)) × (r < 2 ^ 8) ⌝ }
 {
     count_labels(word_at(text, start)).count
 }

@@ -1,13 +1,11 @@
 -- The number of what `longest` answers: the part has four bytes a label, and no more labels than a key may have.
 use borrow.Author.Needs.{needs}
 use native.Mathlib.Omega.{arith}
-use Rattle.lxtr_spec.specs.Labels.{maxLabels}
 use Rattle.lxtr_c.specs.EntryNumbers.{longest-fits, longest-number}
 use Rattle.lxtr_c.proofs.lxtr_longest.Statement.{statement}
 use Rattle.lxtr_c.proofs.lxtr_longest.Tie as tie
 
 pub lxtr-longest-spec : {M : Type 1} → statement M
-unfolding maxLabels
 lxtr-longest-spec =
     tie.close
     (tie.spec

@@ -1,15 +1,15 @@
--- The loop goes up to the number of places.
+-- Each turn is below the count, so what is left up to it falls.
 use borrow.Author.Needs.{needs}
-use Prim.Native.Nat.{_-_, _≤_}
+use Prim.Native.Nat.{_-_}
 use native.Mathlib.Omega.{arith}
 use Rattle.lxtr_lookups.proofs.print_prefixes.Statement.{statement}
 use Rattle.lxtr_lookups.proofs.print_prefixes.Tie as tie
 
 abbrev Inv-loop : tie.InvT-loop
-Inv-loop query count lengths values i₀ i = i ≤ 65
+Inv-loop query count lengths values i₀ i = Unit {0}
 
 abbrev μ-loop : tie.MeasureT-loop
-μ-loop query count lengths values i₀ i = 65 - i
+μ-loop query count lengths values i₀ i = count - i
 
 pub print-prefixes-spec : {M : Type 1} → statement M
 print-prefixes-spec =

@@ -3,22 +3,21 @@ use borrow.Author.Needs.{needs}
 use mathlib.Core.Path.{_∙_}
 use native.Mathlib.Omega.{arith}
 use lib.ListN.{length-set}
-use Rattle.lxtr_spec.specs.Labels.{maxLabels}
+use Rattle.lxtr_laws.specs.Limit.{length-fits-byte}
 use Rattle.lxtr_complete.specs.RecordWriting.{record-in, record-not}
 use Rattle.lxtr_complete.proofs.records.put_record.Statement.{statement}
 use Rattle.lxtr_complete.proofs.records.put_record.Tie as tie
 
 pub put-record-spec : {M : Type 1} → statement M
-unfolding maxLabels
 put-record-spec =
     tie.close
     (tie.spec
-    (λ c. omega arith)
-    (λ c. omega arith)
+    (λ c. omega (arith, length-fits-byte))
+    (λ c. omega (arith, length-fits-byte))
     (λ c. search needs)
     (λ c. record-not _ _ _ _ _ (c .before .before .pre) (omega arith))
     (λ c. search needs)
-    (λ c. omega arith)
+    (λ c. omega (arith, length-fits-byte))
     (λ c. search needs)
     (λ c. search needs)
     (λ c. search needs)

@@ -8,7 +8,6 @@ use lib.ListN.{length}
 use borrow.Author.Needs.{needs}
 use borrow.Fn.Kinds.{In}
 use borrow.Fn.PlainCycle.{Measures, is, falls, and}
-use Rattle.lxtr_spec.specs.Labels.{maxLabels}
 use Rattle.lxtr_build_laws.specs.CodeTables.{codeBy, labelBy}
 use Rattle.lxtr_place.specs.GroupRanges.{groupOf}
 use Rattle.lxtr_place.specs.GatheredCodes.{front-size}
@@ -117,7 +116,6 @@ module _ (t : ℕ) where
       within (entry (k .before .before .before) .pre .1) _ _ _ (k .child-codes .ensures .0) (k .child-codes .kept .1 .1 .1 .1 .1 .0) (k .child-codes .ensures .1) _ _ (settled l .settle-group .ensures) (l .before .fit .given .1) (k .before .before .if1 .left)
 
 pub +place-spec : {M : Type 1} → statement M
-unfolding maxLabels
 +place-spec =
     close μ-place λ t. lts.spec (told t) (at t) place.Post Inv μ
     (λ c. search no-label-left)

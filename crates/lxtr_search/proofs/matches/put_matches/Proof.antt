@@ -5,7 +5,6 @@ use Prim.Native.Nat.{_-_}
 use mathlib.Core.Path.{_≡_}
 use native.Mathlib.Omega.{arith}
 use lib.ListN.{length}
-use Rattle.lxtr_spec.specs.Labels.{maxLabels}
 use Rattle.lxtr_spec.specs.Searches.{prefixesAnswer}
 use Rattle.lxtr_laws.specs.Walking.{Walked, walked-start}
 use Rattle.lxtr_search.specs.Matches.{counted, matchesTo, counted-place, counted-next, counted-below, kept-stop, kept-end}
@@ -22,7 +21,6 @@ abbrev μ-loop : tie.MeasureT-loop
 μ-loop image query lengths₀ values₀ labels count₀ n₀ i₀ lengths values count n i = labels - i
 
 pub put-matches-spec : {M : Type 1} → statement M
-unfolding maxLabels
 put-matches-spec =
     tie.close
     (tie.spec

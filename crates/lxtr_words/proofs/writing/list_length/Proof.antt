@@ -2,7 +2,6 @@
 use borrow.Author.Needs.{needs}
 use Prim.Native.Nat.{_-_}
 use lib.ListN.{length}
-use Rattle.lxtr_spec.specs.Labels.{maxLabels}
 use Rattle.lxtr_words.specs.KeyWriting.{this-right, Summed, sum-start, sum-next, sum-end}
 use Rattle.lxtr_words.proofs.writing.list_length.Statement.{statement}
 use Rattle.lxtr_words.proofs.writing.list_length.Tie as tie
@@ -14,7 +13,6 @@ abbrev μ-loop : tie.MeasureT-loop
 μ-loop text starts total₀ i₀ total i = length starts - i
 
 pub list-length-spec : {M : Type 1} → statement M
-unfolding maxLabels
 list-length-spec =
     tie.close
     (tie.spec

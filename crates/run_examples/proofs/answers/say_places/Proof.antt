@@ -1,6 +1,7 @@
 -- The place goes up to the number of possible lengths.
 use borrow.Author.Needs.{needs}
 use Prim.Native.Nat.{_-_}
+use Rattle.lxtr_spec.specs.Labels.{maxLabels, lengthCount}
 use Rattle.run_examples.proofs.answers.say_places.Statement.{statement}
 use Rattle.run_examples.proofs.answers.say_places.Tie as tie
 
@@ -8,9 +9,10 @@ abbrev Inv-loop : tie.InvT-loop
 Inv-loop count lengths values i₀ i = Unit {0}
 
 abbrev μ-loop : tie.MeasureT-loop
-μ-loop count lengths values i₀ i = 65 - i
+μ-loop count lengths values i₀ i = lengthCount - i
 
 pub say-places-spec : {M : Type 1} → statement M
+unfolding maxLabels
 say-places-spec =
     tie.close
     (tie.spec
