@@ -39,7 +39,8 @@
  * Take it apart with lxtr_refusal, lxtr_more, lxtr_has_value and lxtr_number below. A part that a function does not use is 0.
  * If the refusal is 0, nothing was refused. If not, it is a value of enum lxtr_reason, all other parts are 0, and lent memory
  * is unchanged (but lxtr_build clears its work: see there). If several reasons hold, the answer is the first of them, in the
- * order given at the function. Only lxtr_fault answers more beside a refusal.
+ * order given at the function. lxtr_fault differs: it answers more beside a refusal, and 0 for an image that lxtr_check refuses
+ * with 1 to 8.
  *
  * LAYOUT OF AN IMAGE; only needed to understand a refusal
  *
@@ -86,7 +87,7 @@ extern "C" {
 enum lxtr_reason {
 	LXTR_NOT_REFUSED = 0,
 
-	/* of an image, by every function that takes one, in this order */
+	/* of an image, by every function that takes one except lxtr_fault, in this order */
 	LXTR_IMAGE_TOO_SHORT = 1,      /* fewer than 24 bytes */
 	LXTR_NOT_LXTR = 2,             /* the first four bytes are not "LXTR" */
 	LXTR_WRONG_VERSION = 3,        /* the version is not 3 */
