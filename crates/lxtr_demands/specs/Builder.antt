@@ -1,5 +1,5 @@
 -- Demand 2 for the builder: from a sorted key list the image built is the one the first-fit rule gives, and it reads back as
--- those keys, numbered from 0. Only the statements; the proofs are in Laws/Builder.antt.
+-- those keys, numbered from 0. Only the statements (read-back of any program); the proofs are in Laws/Builder.antt.
 use Prim.Native.Nat.{ℕ, suc, _*_, _^_, _≤_, _<_}
 use mathlib.Core.Path.{_≡_}
 use mathlib.Core.Logic.{_↔_, _⊎_, _≢_}
@@ -10,9 +10,7 @@ use lib.ListN.{length, take, drop}
 use Rattle.lxtr_spec.specs.Numbers.{beWords}
 use Rattle.lxtr_spec.specs.Labels.{maxSlots, labelsOf, Pair}
 use Rattle.lxtr_spec.specs.Joining.{slotUnder}
-use Rattle.lxtr_spec.specs.Refusals.{checkOf}
-use Rattle.lxtr_spec.specs.Searches.{exactOf}
-use Rattle.lxtr_spec.specs.Completions.{listingOf, roomFor, completionOf}
+use Rattle.lxtr_spec.specs.Completions.{listingOf, roomFor}
 use Rattle.lxtr_spec.specs.KeyLists.{keyCount, pairsOf}
 use Rattle.lxtr_spec.specs.CodeMaps.{frequency, mapOf}
 use Rattle.lxtr_spec.specs.Placing.{baseAt, checkAt, baseCount, firstFit, childCodes, place}
@@ -26,26 +24,26 @@ pub record HasExactly (d : PairSet) (ps : List Pair) : Type 0 where
   pub only : (k : List ℕ) (v : ℕ) → Has d k v → List·Memᴰ (k, v) ps
 
 -- what holds of the image that a key list gives
-pub record ReadsBack (keys image : List ℕ) : Type 0 where
+pub record ReadsBack (o : Operations) (keys image : List ℕ) : Type 0 where
   -- It is an image of exactly the set "key i has value i".
   pub pair-set : PairSet
   pub pair-set-is : HasExactly pair-set (pairsOf keys)
   pub image-of : ImageOf image pair-set
   -- So the check accepts it with that count,
-  pub checked : checkOf image ≡ record { refusal = 0; pairs = keyCount keys }
+  pub checked : o .check image ≡ record { refusal = 0; pairs = keyCount keys }
   -- exact finds each key's number
-  pub exact : (k : List ℕ) (v : ℕ) → List·Memᴰ (k, v) (pairsOf keys) → exactOf image (beWords k) ≡ record { refusal = 0; value = some v }
+  pub exact : (k : List ℕ) (v : ℕ) → List·Memᴰ (k, v) (pairsOf keys) → o .exact image (beWords k) ≡ record { refusal = 0; value = some v }
   -- and nothing else,
-  pub exact-only : (q : List ℕ) (v : ℕ) → exactOf image q .value ≡ some v → List·Memᴰ (labelsOf q, v) (pairsOf keys)
+  pub exact-only : (q : List ℕ) (v : ℕ) → o .exact image q .value ≡ some v → List·Memᴰ (labelsOf q, v) (pairsOf keys)
   -- and completing the empty prefix with room enough lists the keys, in code order.
   pub listing : (ps : List Pair) × Lists image pair-set [] ps
   pub completion : (ps : List Pair) (room : List ℕ) → Lists image pair-set [] ps → roomFor ps ≤ length room
-      → completionOf image [] room ≡ record { answer = record { refusal = 0; count = keyCount keys; stopped = false }; room = listingOf ps ++ drop (roomFor ps) room }
+      → o .complete image [] room ≡ record { answer = record { refusal = 0; count = keyCount keys; stopped = false }; room = listingOf ps ++ drop (roomFor ps) room }
 
 -- wherever building refuses nothing; the image are the bytes that it wrote at the output's front
 abbrev pub Demand2Builder : Operations → Type 0
 Demand2Builder o = (keys work out : List ℕ) → o .build keys work out .answer .refusal ≡ 0
-    → ReadsBack keys (take (o .build keys work out .answer .length) (o .build keys work out .output))
+    → ReadsBack o keys (take (o .build keys work out .answer .length) (o .build keys work out .output))
 
 -- First fit. Every child's slot under the base b, where the children have the codes cs, is free and lies in 2 to S-1:
 pub record Fits (S : ℕ) (w cs : List ℕ) (b : ℕ) : Type 0 where
@@ -79,7 +77,8 @@ pub record FirstFit : Type 0 where
   -- There is one such base.
   pub one-fit : (S : ℕ) (w cs : List ℕ) (a b : ℕ) → SmallestFit S w cs a → SmallestFit S w cs b → a ≡ b
 
--- The labels that the keys use, and no other, in the order of their codes: higher frequency gets the smaller code, equal ones go by smaller label.
+-- The labels that the keys use, and no other, in the order of their codes: higher frequency gets the smaller code, equal ones go by
+-- smaller label.
 abbrev pub FrequencyBefore : List Pair → ℕ → ℕ → Type 0
 FrequencyBefore ps x y = (frequency ps y < frequency ps x) ⊎ ((frequency ps x ≡ frequency ps y) × (x < y))
 

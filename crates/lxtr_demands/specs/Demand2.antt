@@ -1,5 +1,6 @@
 -- Demand 2 for the searches and completions: what each answers over an image is what the image's set of pairs says.
--- Only the statements, of any program; that the definitions meet them is `demand2` in Laws/Demand2.antt and `searches-agree` in Laws/Searches.antt.
+-- Only the statements, of any program; that the definitions meet them is `demand2` in Laws/Demand2.antt and `searches-agree` in
+-- Laws/Searches.antt.
 use Prim.Native.Nat.{ℕ, _*_, _%_, _≤_}
 use mathlib.Core.Path.{_≡_}
 use mathlib.Core.Logic.{_↔_}

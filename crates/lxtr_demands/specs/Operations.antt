@@ -1,5 +1,6 @@
 -- A program as the demands see it: what each operation answers, and what lent memory holds afterwards, for all that can be passed.
--- A demand speaks of any such program. `defined` is the one of the definitions, with which the contracts equate what the code answers.
+-- Demand 3, demand 2 for the searches, and read-back speak of any such program. `defined` is the one of the definitions, with which the
+-- contracts equate what the code answers.
 use Prim.Native.Nat.{ℕ}
 use mathlib.Core.List.{List}
 use Rattle.lxtr_spec.specs.Refusals.{checkOf}

@@ -42,7 +42,8 @@ EntriesHold b = OffsetsRise b × ((p j : ℕ) → p < slotCount b → InList b p
 abbrev pub AllListed : List ℕ → Type 0
 AllListed b = EntriesHold b × (childCount b ≡ usedCount b) × None (slotCount b) (unlisted b)
 
--- What the answer says of the bytes. Each line has its refusal: so each answer is given exactly with that, and `Nowhere` with none of 9 to 12.
+-- What the answer says of the bytes. Each line has its refusal: so each answer is given exactly with that, and `Nowhere` with none
+-- of 9 to 12.
 abbrev pub Right : List ℕ → Fault → Type 0
 Right b Nowhere = imageRefusal b ≤ 8
 Right b (Label i) = (imageRefusal b ≡ 9) × First (labelCount b) (labelWrong b) i

@@ -1,10 +1,11 @@
--- What the demands rule out. Each statement is of every possible program o that meets a demand, whatever else it does: over an image its
--- answers are those of the definitions and no others, so a program of each kind that document 01 names under "What the promises rule out" fails.
+-- What the demands rule out, of every possible program. In a module, o is any program that meets the demand, whatever else it does: over an
+-- image it answers what the definitions answer. So the programs that document 01 names under "What the promises rule out" fail.
+-- Then what is ruled out of code maps and of places of faults.
 use Prim.Native.Nat.{ℕ, zero, suc, _%_, _≤_, _<_}
 use native.Mathlib.Omega.{arith}
 use mathlib.Core.Path.{_≡_, refl, sym, ap, _∙_, subst}
 use mathlib.Core.Logic.{_≢_, _↔_, inr}
-use mathlib.Core.List.{List, [], _∷_, _++_, List·Memᴰ, append-nil}
+use mathlib.Core.List.{List, [], _∷_, _++_, List·Memᴰ, List·Memᴰ·head, append-nil}
 use mathlib.Core.Option.{Option, some, none}
 use mathlib.Core.Bool.{Bool, true, false, true≢false}
 use lib.ListN.{length, take, getD, replicate}
@@ -14,6 +15,7 @@ use Rattle.lxtr_spec.specs.Refusals.{usedCount, checkOf}
 use Rattle.lxtr_spec.specs.Searches.{ExactAnswer, LongestAnswer, ProbeAnswer, exactOf, prefixesOf, longestOf, probeOf}
 use Rattle.lxtr_spec.specs.Completions.{CompletionAnswer, completionOf}
 use Rattle.lxtr_spec.specs.KeyLists.{pairsOf}
+use Rattle.lxtr_spec.specs.Builds.{buildOf}
 use Rattle.lxtr_spec.specs.CodeMaps.{mapOf}
 use Rattle.lxtr_spec.specs.FaultPlaces.{faultOf}
 use Rattle.lxtr_spec.specs.Sets.{PairSet, Prefix, Has, ImageOf}
@@ -26,7 +28,7 @@ use Rattle.lxtr_spec.specs.declared.Fault.the-variants.{Entry}
 use Rattle.lxtr_demands.specs.Operations.{Operations}
 use Rattle.lxtr_demands.specs.Demand2.{Demand2}
 use Rattle.lxtr_demands.specs.Demand3.{Demand3}
-use Rattle.lxtr_demands.specs.Builder.{Demand2Builder, Fits, SmallestFit, ByFrequency}
+use Rattle.lxtr_demands.specs.Builder.{Demand2Builder, ByFrequency}
 use Rattle.lxtr_demands.specs.RightPlaces.{Right}
 use Rattle.lxtr_demands.specs.Rows.{computing}
 use Rattle.lxtr_demands.specs.Laws.Demand2.{demand2}
@@ -97,18 +99,19 @@ module _ (o : Operations) (meets : (b : List ℕ) → Demand3 o b) where
   pub accepts-all-fails : ((b : List ℕ) → o .check b .refusal ≡ 0) → ⊥
   accepts-all-fails accepts = accepted-other-fails p10 p10-is-none (accepts p10)
 
-  -- A made-up pair count fails: any number that is not that of the set's pairs. So does the same number for all images, and the number of used slots.
+  -- A made-up pair count fails: any number that is not that of the set's pairs. So does the same number for every image, and the number of
+  -- used slots.
   pub made-up-count-fails : (b : List ℕ) (d : PairSet) (ps : List Pair) → ImageOf b d → Lists b d [] ps → o .check b .pairs ≢ length ps → ⊥
   made-up-count-fails b d ps image are other = other (ap (λ (v : Verdict). v .pairs) (meets b .answer d ps image are))
 
   pairs-of : (b : List ℕ) → IsImage b → o .check b .pairs ≡ checkOf b .pairs
   pairs-of b image = ap (λ (v : Verdict). v .pairs) (only-check b image)
 
-  pub constant-count-fails : (n : ℕ) → ((b : List ℕ) → o .check b .pairs ≡ n) → ⊥
-  constant-count-fails n same = omega (arith, pairs-of p3 p3-is-image, pairs-of p11 p11-is-image, same p3, same p11, p3-counts .0, p11-counts)
+  pub constant-count-fails : (n : ℕ) → ((b : List ℕ) → IsImage b → o .check b .pairs ≡ n) → ⊥
+  constant-count-fails n same = omega (arith, pairs-of p3 p3-is-image, pairs-of p11 p11-is-image, same p3 p3-is-image, same p11 p11-is-image, p3-counts .0, p11-counts)
 
-  pub counted-slots-fail : ((b : List ℕ) → o .check b .pairs ≡ usedCount b) → ⊥
-  counted-slots-fail same = omega (arith, pairs-of p3 p3-is-image, same p3, p3-counts .0, p3-counts .1)
+  pub counted-slots-fail : ((b : List ℕ) → IsImage b → o .check b .pairs ≡ usedCount b) → ⊥
+  counted-slots-fail same = omega (arith, pairs-of p3 p3-is-image, same p3 p3-is-image, p3-counts .0, p3-counts .1)
 
 -- ---- demand 2: the searches and completions
 
@@ -150,9 +153,9 @@ longer-differs = (refl, refl)
 abbrev blank : ℕ → List ℕ
 blank n = replicate n 0xFF
 
-room-differs : getD (completionOf p11 [] (blank 40) .room) 0 0 ≡ 1
+version-written : getD (completionOf p11 [] (blank 40) .room) 0 0 ≡ 1
 unfolding computing
-room-differs = refl
+version-written = refl
 
 counts-differ : (completionOf p11 [] (blank 40) .answer .count ≡ 3) × (completionOf p11 [] (blank 5) .answer .count ≡ 0)
 unfolding computing
@@ -202,20 +205,20 @@ module _ (o : Operations) (meets : Demand2 o) where
       meets b d q image whole .completion ps fit room are h front ∙ sym (answered .completion ps fit room are h front)
 
   -- A search with a constant answer fails, on P4 to P6: exact, prefixes, longest, and both parts of probe.
-  pub constant-exact-fails : ((q r : List ℕ) → o .exact p3 q .value ≡ o .exact p3 r .value) → ⊥
-  constant-exact-fails same = exact-differs (sym (value q6e refl) ∙ same q6e q61 ∙ value q61 refl)
+  pub constant-exact-fails : ((q r : List ℕ) → length q % 4 ≡ 0 → length r % 4 ≡ 0 → o .exact p3 q .value ≡ o .exact p3 r .value) → ⊥
+  constant-exact-fails same = exact-differs (sym (value q6e refl) ∙ same q6e q61 refl refl ∙ value q61 refl)
     where
       value : (q : List ℕ) → length q % 4 ≡ 0 → o .exact p3 q .value ≡ exactOf p3 q .value
       value q whole = ap (λ (a : ExactAnswer). a .value) (only-exact p3 q p3-is-image whole)
 
-  pub constant-prefixes-fail : ((q r : List ℕ) → o .prefixes p3 q .count ≡ o .prefixes p3 r .count) → ⊥
-  constant-prefixes-fail same = omega (arith, same q6e q61, count q6e refl, count q61 refl, prefixes-differ .0, prefixes-differ .1)
+  pub constant-prefixes-fail : ((q r : List ℕ) → length q % 4 ≡ 0 → length r % 4 ≡ 0 → o .prefixes p3 q .count ≡ o .prefixes p3 r .count) → ⊥
+  constant-prefixes-fail same = omega (arith, same q6e q61 refl refl, count q6e refl, count q61 refl, prefixes-differ .0, prefixes-differ .1)
     where
       count : (q : List ℕ) → length q % 4 ≡ 0 → o .prefixes p3 q .count ≡ prefixesOf p3 q .count
       count q whole = ap (λ (a : Prefixes). a .count) (only-prefixes p3 q p3-is-image whole)
 
-  pub constant-longest-fails : ((q r : List ℕ) → o .longest p3 q .part ≡ o .longest p3 r .part) → ⊥
-  constant-longest-fails same = omega (arith, ap length (same q6e q61), size q6e refl, size q61 refl, longest-differ .0, longest-differ .1)
+  pub constant-longest-fails : ((q r : List ℕ) → length q % 4 ≡ 0 → length r % 4 ≡ 0 → length (o .longest p3 q .part) ≡ length (o .longest p3 r .part)) → ⊥
+  constant-longest-fails same = omega (arith, same q6e q61 refl refl, size q6e refl, size q61 refl, longest-differ .0, longest-differ .1)
     where
       size : (q : List ℕ) → length q % 4 ≡ 0 → length (o .longest p3 q .part) ≡ length (longestOf p3 q .part)
       size q whole = ap (λ (a : LongestAnswer). length (a .part)) (only-longest p3 q p3-is-image whole)
@@ -223,15 +226,15 @@ module _ (o : Operations) (meets : Demand2 o) where
   probes : (q : List ℕ) → length q % 4 ≡ 0 → o .probe p3 q ≡ probeOf p3 q
   probes q whole = only-probe p3 q p3-is-image whole
 
-  pub constant-value-fails : ((q r : List ℕ) → o .probe p3 q .value ≡ o .probe p3 r .value) → ⊥
+  pub constant-value-fails : ((q r : List ℕ) → length q % 4 ≡ 0 → length r % 4 ≡ 0 → o .probe p3 q .value ≡ o .probe p3 r .value) → ⊥
   constant-value-fails same =
-      probe-differs (sym (value q6e refl) ∙ same q6e q61 ∙ value q61 refl)
+      probe-differs (sym (value q6e refl) ∙ same q6e q61 refl refl ∙ value q61 refl)
     where
       value : (q : List ℕ) → length q % 4 ≡ 0 → o .probe p3 q .value ≡ probeOf p3 q .value
       value q whole = ap (λ (a : ProbeAnswer). a .value) (probes q whole)
 
-  pub constant-longer-fails : ((q r : List ℕ) → o .probe p3 q .longer ≡ o .probe p3 r .longer) → ⊥
-  constant-longer-fails same = true≢false (sym (longer-differs .0) ∙ sym (longer q6e refl) ∙ same q6e q6e61 ∙ longer q6e61 refl ∙ longer-differs .1)
+  pub constant-longer-fails : ((q r : List ℕ) → length q % 4 ≡ 0 → length r % 4 ≡ 0 → o .probe p3 q .longer ≡ o .probe p3 r .longer) → ⊥
+  constant-longer-fails same = true≢false (sym (longer-differs .0) ∙ sym (longer q6e refl) ∙ same q6e q6e61 refl refl ∙ longer q6e61 refl ∙ longer-differs .1)
     where
       longer : (q : List ℕ) → length q % 4 ≡ 0 → o .probe p3 q .longer ≡ probeOf p3 q .longer
       longer q whole = ap (λ (a : ProbeAnswer). a .longer) (probes q whole)
@@ -239,17 +242,18 @@ module _ (o : Operations) (meets : Demand2 o) where
   -- A completion that writes nothing fails, on P11.
   pub idle-completion-fails : ((room : List ℕ) → o .complete p11 [] room .room ≡ room) → ⊥
   idle-completion-fails idle =
-      omega (arith, room-differs, ap (λ (r : List ℕ). getD r 0 0) (idle (blank 40)), ap (λ (a : CompletionAnswer). getD (a .room) 0 0) (only-complete p11 [] (blank 40) p11-is-image refl (omega arith)))
+      omega (arith, version-written, ap (λ (r : List ℕ). getD r 0 0) (idle (blank 40)), ap (λ (a : CompletionAnswer). getD (a .room) 0 0) (only-complete p11 [] (blank 40) p11-is-image refl (omega arith)))
 
-  -- A made-up completion count fails: any number that is not that of the records written. So does the same number whatever the room.
+  -- A made-up completion count fails: any number that is not that of the records written. So does the same number whatever the room. (The
+  -- count that is written into the room is among what only-complete says.)
   pub made-up-completion-count-fails : (b : List ℕ) (d : PairSet) (q room : List ℕ) (ps fit : List Pair) → ImageOf b d → length q % 4 ≡ 0 → Lists b d (labelsOf q) ps
       → 5 ≤ length room → FittingFront (length room) ps fit → o .complete b q room .answer .count ≢ length fit → ⊥
   made-up-completion-count-fails b d q room ps fit image whole are h front other =
       other (ap (λ (a : CompletionAnswer). a .answer .count) (meets b d q image whole .completion ps fit room are h front))
 
-  pub constant-completion-count-fails : (n : ℕ) → ((room : List ℕ) → o .complete p11 [] room .answer .count ≡ n) → ⊥
+  pub constant-completion-count-fails : (n : ℕ) → ((room : List ℕ) → 5 ≤ length room → o .complete p11 [] room .answer .count ≡ n) → ⊥
   constant-completion-count-fails n same =
-      omega (arith, same (blank 40), same (blank 5), count (blank 40) (omega arith), count (blank 5) (omega arith), counts-differ .0, counts-differ .1)
+      omega (arith, same (blank 40) (omega arith), same (blank 5) (omega arith), count (blank 40) (omega arith), count (blank 5) (omega arith), counts-differ .0, counts-differ .1)
     where
       count : (room : List ℕ) → 5 ≤ length room → o .complete p11 [] room .answer .count ≡ completionOf p11 [] room .answer .count
       count room h = ap (λ (a : CompletionAnswer). a .answer .count) (only-complete p11 [] room p11-is-image refl h)
@@ -257,26 +261,37 @@ module _ (o : Operations) (meets : Demand2 o) where
 -- ---- demand 2: the builder
 
 -- bytes that an image does not begin with
-blank-front : (m n : ℕ) → getD (take m (blank n)) 0 0 ≢ 0x4C
-blank-front zero n e = omega arith
-blank-front (suc m) zero e = omega arith
-blank-front (suc m) (suc n) e = omega arith
+other-front : (m : ℕ) (out : List ℕ) → getD out 0 0 ≢ 0x4C → getD (take m out) 0 0 ≢ 0x4C
+other-front zero out other e = omega arith
+other-front (suc m) [] other e = omega arith
+other-front (suc m) (x ∷ out) other e = other e
 
-module _ (o : Operations) (meets : Demand2Builder o) (keys work : List ℕ) where
-  abbrev writes : List ℕ → List ℕ
-  writes out = take (o .build keys work out .answer .length) (o .build keys work out .output)
+-- P3's keys, in work and output of just the size that they need
+abbrev keys3 : List ℕ
+keys3 = 1 ∷ 0 ∷ 0 ∷ 0 ∷ 2 ∷ 1 ∷ 0 ∷ 0 ∷ 0 ∷ 0x6E ∷ 2 ∷ 0 ∷ 0 ∷ 0 ∷ 0x6E ∷ 0 ∷ 0 ∷ 0 ∷ 0x61 ∷ []
 
-  -- A builder that refuses nothing and writes nothing fails read-back, whatever the keys: what it left in the output is no image.
-  pub idle-builder-fails : (n : ℕ) → o .build keys work (blank n) .answer .refusal ≡ 0 → o .build keys work (blank n) .output ≡ blank n → ⊥
+abbrev pairs3 : List Pair
+pairs3 = (0x6E ∷ [], 0) ∷ (0x6E ∷ 0x61 ∷ [], 1) ∷ []
+
+builds3 : (buildOf keys3 (blank 14) (blank 141) .answer .refusal ≡ 0) × (pairsOf keys3 ≡ pairs3)
+unfolding computing
+builds3 = (refl, refl)
+
+module _ (o : Operations) (meets : Demand2Builder o) where
+  abbrev writes : List ℕ → List ℕ → List ℕ → List ℕ
+  writes keys work out = take (o .build keys work out .answer .length) (o .build keys work out .output)
+
+  -- Where nothing is refused, something is written: what the output held before is no image, unless it began as one.
+  pub unwritten-fails : (keys work out : List ℕ) → getD out 0 0 ≢ 0x4C → o .build keys work out .answer .refusal ≡ 0 → o .build keys work out .output ≡ out → ⊥
   unfolding magic
-  idle-builder-fails n e idle =
-      let begins = meets keys work (blank n) e .image-of .framed .magic-bytes 0 (omega arith) in
-      blank-front (o .build keys work (blank n) .answer .length) n (subst (λ (out : List ℕ). getD (take (o .build keys work (blank n) .answer .length) out) 0 0 ≡ 0x4C) idle begins)
+  unwritten-fails keys work out other e idle =
+      let begins = meets keys work out e .image-of .framed .magic-bytes 0 (omega arith) in
+      other-front (o .build keys work out .answer .length) out other (subst (λ (l : List ℕ). getD (take (o .build keys work out .answer .length) l) 0 0 ≡ 0x4C) idle begins)
 
-  -- One that places slot 1's children and no more fails, wherever a key has a label: no slot of what it writes has a parent but slot 1.
-  pub one-level-fails : (out k : List ℕ) (x v : ℕ) → List·Memᴰ (k ++ x ∷ [], v) (pairsOf keys) → o .build keys work out .answer .refusal ≡ 0
-      → ((s : ℕ) → 2 ≤ s → s < slotCount (writes out) → parent (writes out) s ≤ 1) → ⊥
-  one-level-fails out k x v m e low =
+  -- Where a key has a label, some slot has a parent other than slot 1: the key's end, for one.
+  pub one-level-fails : (keys work out k : List ℕ) (x v : ℕ) → List·Memᴰ (k ++ x ∷ [], v) (pairsOf keys) → o .build keys work out .answer .refusal ≡ 0
+      → ((s : ℕ) → 2 ≤ s → s < slotCount (writes keys work out) → parent (writes keys work out) s ≤ 1) → ⊥
+  one-level-fails keys work out k x v m e low =
       let back = meets keys work out e in
       let placed = back .image-of .placed in
       let key = k ++ x ∷ [] in
@@ -285,14 +300,23 @@ module _ (o : Operations) (meets : Demand2Builder o) (keys work : List ℕ) wher
       let end = placed .end-in key v has in
       omega (arith, low (back .image-of .end key) (end .0) (end .1), placed .end-parent key v has, placed .slot-in k x is-prefix .0)
 
--- A search for a base that passes over base 0 where that fits fails first fit.
-pub base-0-passed-over-fails : (S : ℕ) (w cs : List ℕ) (b : ℕ) → SmallestFit S w cs b → Fits S w cs 0 → 1 ≤ b → ⊥
-base-0-passed-over-fails S w cs b smallest fits h = omega (arith, h, smallest .smallest 0 fits)
+  -- So of the builders that refuse what document 01 refuses and nothing else, one that writes nothing fails, and one that places slot 1's
+  -- children and no more. (One that refuses more has nothing to read back; the equation of `build` rules it out.)
+  module _ (refuses : (keys work out : List ℕ) → o .build keys work out .answer .refusal ≡ buildOf keys work out .answer .refusal) where
+    builds : o .build keys3 (blank 14) (blank 141) .answer .refusal ≡ 0
+    builds = refuses keys3 (blank 14) (blank 141) ∙ builds3 .0
+
+    pub idle-builder-fails : ((keys work out : List ℕ) → o .build keys work out .output ≡ out) → ⊥
+    idle-builder-fails idle = unwritten-fails keys3 (blank 14) (blank 141) (λ e. omega (arith, e)) builds (idle keys3 (blank 14) (blank 141))
+
+    pub one-level-builder-fails : ((keys work out : List ℕ) (s : ℕ) → 2 ≤ s → s < slotCount (writes keys work out) → parent (writes keys work out) s ≤ 1) → ⊥
+    one-level-builder-fails low =
+        let first : List·Memᴰ {A = Pair} (0x6E ∷ [], 0) (pairsOf keys3) = subst (List·Memᴰ {A = Pair} (0x6E ∷ [], 0)) (sym (builds3 .1)) (List·Memᴰ·head refl) in
+        one-level-fails keys3 (blank 14) (blank 141) [] 0x6E 0 first builds (low keys3 (blank 14) (blank 141))
+
+-- ---- code maps
 
 -- Codes by label alone fail, on P3's keys: 6E is in two of them, 61 in one.
-abbrev pairs3 : List Pair
-pairs3 = (0x6E ∷ [], 0) ∷ (0x6E ∷ 0x61 ∷ [], 1) ∷ []
-
 codes3 : mapOf pairs3 ≡ 0x6E ∷ 0x61 ∷ []
 unfolding computing
 codes3 = refl

@@ -38,7 +38,8 @@ pub record Longer (d : PairSet) (xs : List ℕ) : Type 0 where
   pub value : ℕ
   pub is : Has d (xs ++ next ∷ rest) value
 
--- Code order compares keys by their labels' codes, one after the other, a proper prefix first. (Every label of a key is listed, so the 0 for a missing code is never used.)
+-- Code order compares keys by their labels' codes, one after the other, a proper prefix first. (Every label of a key is listed, so
+-- the 0 for a missing code is never used.)
 unfoldable pub labelCode : List ℕ → ℕ → ℕ
 labelCode b x = Option·getD (codeOf b x) 0
 

@@ -189,7 +189,8 @@ someUnreachable b = anyBelow (slotCount b) (unreachable b)
 unfoldable pub bodyRefusal : List ℕ → ℕ
 bodyRefusal b = refuseIf (labelsWrong b) 9 (refuseIf (slotsWrong b) 10 (refuseIf (listsWrong b) 11 (refuseIf (someUnreachable b) 12 0)))
 
--- the first of 1 to 12 that holds, or 0. (What a `let` binds is computed only where it is used: 9 to 12 only after 1 to 8, where N is small.)
+-- the first of 1 to 12 that holds, or 0. (What a `let` binds is computed only where it is used: 9 to 12 only after 1 to 8, where N
+-- is small.)
 unfoldable pub imageRefusal : List ℕ → ℕ
 imageRefusal b = let later = bodyRefusal b in firstRefusal (headerRefusal b) later
 

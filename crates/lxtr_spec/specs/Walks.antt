@@ -41,6 +41,7 @@ valueReached b (some n) = valueAt b n
 unfoldable pub valueOf : List ℕ → List ℕ → Option ℕ
 valueOf b xs = valueReached b (walk b 1 xs)
 
--- whether longer keys exist: the width of the slot's children list is above 1 with HAS_LEAF set, above 0 without. A falling offset pair has width 0.
+-- whether longer keys exist: the width of the slot's children list is above 1 with HAS_LEAF set, above 0 without. A falling offset
+-- pair has width 0.
 unfoldable pub longerAt : List ℕ → ℕ → Bool
 longerAt b n = ltb (cond (hasLeaf b n) 1 0) (listWidth b n)

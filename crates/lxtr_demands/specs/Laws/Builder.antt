@@ -99,7 +99,7 @@ module _ (keys image : List ℕ) (right : KeysRight (pairsOf keys)) (image-of : 
       go zero e = member (labelsOf q) v (ap (λ (f : PairSet). f (labelsOf q)) (sym (exact-set (known-image image-of))) ∙ e)
       go (suc n) e = absurd (none-not-some e)
 
-  reads-back : ReadsBack keys image
+  reads-back : ReadsBack defined keys image
   unfolding checkOf unlessRefused
   reads-back = record {
     pair-set = d;
