@@ -281,7 +281,7 @@ module _ (o : Operations) (meets : Demand2Builder o) where
   abbrev writes : List ℕ → List ℕ → List ℕ → List ℕ
   writes keys work out = take (o .build keys work out .answer .length) (o .build keys work out .output)
 
-  -- Where nothing is refused, something is written: what the output held before is no image, unless it began as one.
+  -- Where nothing is refused, something is written: an output that does not begin with `L` is no image as it is.
   pub unwritten-fails : (keys work out : List ℕ) → getD out 0 0 ≢ 0x4C → o .build keys work out .answer .refusal ≡ 0 → o .build keys work out .output ≡ out → ⊥
   unfolding magic
   unwritten-fails keys work out other e idle =
