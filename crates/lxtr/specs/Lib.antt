@@ -1,2 +1,2 @@
--- What the answers of the operations say of the parts of the command's arrays.
+-- What the answers of the operations say about the parts of the command's arrays.
 pub mod Parts

@@ -18,7 +18,7 @@ use Rattle.lxtr_command_spec.specs.declared.Decoded.{Decoded}
 pub passed : (b : List ℕ) (r : ℕ) → r ≡ headerRefusal b → r ≡ 0 → Passed b
 passed b r e z = header-passed (sym e ∙ z)
 
--- where a word is decoded, its labels lie in the room
+-- if a word is decoded, its labels lie in the room
 decoded-in : (room : List ℕ) (o : Option (List ℕ)) → decoding room o .answer .problem ≡ 0 → 4 * decoding room o .answer .count ≤ length (decoding room o .room)
 unfolding decoding
 decoded-in room none e = absurd (omega arith)

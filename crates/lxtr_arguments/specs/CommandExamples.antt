@@ -9,7 +9,7 @@ use Rattle.lxtr_command_spec.specs.declared.Command.the-variants.{Check, Exact,
 use Rattle.lxtr_command_spec.specs.Commands.{asciiFrom, ascii, sameBytes, taking, row, laterRows, commandOf}
 
 pub data Example : Type 0 where
-  -- a name, how many operands are behind it, and what it means
+  -- a name, how many operands follow it, and what it means
   means : String → ℕ → Command → Example
 
 abbrev pub Holds : Example → Type 0
@@ -40,7 +40,7 @@ examples =
     ∷ means "keys" 3 WrongOperands
     ∷ means "draw" 0 WrongOperands
     ∷ means "help" 1 WrongOperands
-    -- no name, a shorter one, a longer one, one in other letters, and one with a byte changed
+    -- no name, a shorter one, a longer one, one with a capital letter, and one with a letter changed
     ∷ means "" 0 Unknown
     ∷ means "chec" 1 Unknown
     ∷ means "checks" 1 Unknown

@@ -1,4 +1,4 @@
--- Two names are the same bytes exactly when they are the same list. So many bytes of them are known to be the same.
+-- Two names are equal exactly when they are the same list of bytes. The loop keeps that the first i bytes are the same.
 use Prim.Native.Nat.{ℕ, _+_, _≤_, _<_}
 use native.Mathlib.Omega.{arith}
 use mathlib.Core.Path.{_≡_, refl, sym, ap, ap₂}

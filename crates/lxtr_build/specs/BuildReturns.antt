@@ -1,4 +1,4 @@
--- Answers of the builder's functions, beside the outcome that they stand for: from the refusals of the list to the image.
+-- The answers of the builder's functions, and the outcomes that they stand for: from the refusals of the list to the image.
 use Prim.Native.Nat.{ℕ, zero, suc, _≤_, _<_}
 use native.Mathlib.Omega.{arith}
 use mathlib.Core.Path.{_≡_, refl, sym, ap, _∙_}
@@ -23,7 +23,7 @@ use Rattle.lxtr_build_laws.specs.ListTotals.{children-count}
 use Rattle.lxtr_write.specs.SectionWriting.{ImageReady}
 use Rattle.lxtr_write.specs.WriteOutcomes.{Answers, answers-refusal}
 
--- what comes of these keys with this work and this output: from refusal 20 on, and from refusal 22 on
+-- the outcome for these keys with this work and this output: starting with refusal 20, and starting with refusal 22
 abbrev pub labelsOutcome : List ℕ → List ℕ → List ℕ → Outcome
 labelsOutcome keys work out = fromLabels (length work) (length out) (pairsOf keys) (mapOf (pairsOf keys))
 
@@ -35,7 +35,7 @@ placedOutcome keys work out =
 map-size : {ps : List Pair} {labels codes order : List ℕ} → CodeTables ps labels codes order → length order ≡ length (mapOf ps)
 map-size {ps} {labels} {codes} {order} tables = sym (picked-length labels order) ∙ ap length (tables .map-is)
 
--- 22, or the image of the work: r is whether every slot has a base
+-- refusal 22, or the image of the work: r is whether every slot has a base
 module _ (keys w : List ℕ) (W R : ℕ) (out : List ℕ) (r : Bool) (placed : placedAs r w ≡ placedIn W (pairsOf keys) (mapOf (pairsOf keys))) where
   abbrev outcome : Outcome
   outcome = fromPlaced (slotsIn W) R (mapOf (pairsOf keys)) (placedIn W (pairsOf keys) (mapOf (pairsOf keys)))
@@ -60,7 +60,7 @@ module _ (keys w : List ℕ) (W R : ℕ) (out : List ℕ) (r : Bool) (placed : p
     unfolding fromPlaced
     placed-built b out′ a = rw found (rw (same, tables .map-is) at a)
 
--- 20, or what the tables of the code map give: r is the number of its labels, or more than it may list
+-- refusal 20, or what the tables of the code map give: r is the number of its labels, or more than it may list
 module _ (keys labels codes order : List ℕ) (r : ℕ) (m : Mapped (pairsOf keys) labels codes order r) (W R : ℕ) (out : List ℕ) where
   pub labels-many : maxListed < r → Answers (fromLabels W R (pairsOf keys) (mapOf (pairsOf keys))) out (record { refusal = 20; length = 0 }) out
   unfolding fromLabels
@@ -77,7 +77,7 @@ module _ (keys labels codes order : List ℕ) (r : ℕ) (m : Mapped (pairsOf key
         let few : length (mapOf (pairsOf keys)) ≤ maxListed = omega (arith, map-size tables-made, tables-made .few, tables-made .order-size) in
         rw (le-ltb maxListed (length (mapOf (pairsOf keys))) few, fromLabels) a
 
--- 15 to 19, or what the keys give: r is the refusal of the list
+-- refusals 15 to 19, or what the keys give: r is the refusal of the list
 module _ (keys : List ℕ) (r : ℕ) (is : r ≡ listRefusal keys) where
   pub keys-pass : r ≡ 0 → KeysPassed keys
   keys-pass z = list-passed keys (sym is ∙ z)
@@ -95,7 +95,7 @@ module _ (keys : List ℕ) (r : ℕ) (is : r ≡ listRefusal keys) where
     unfolding fromKeys
     keys-built b out′ z a = rw (sym is ∙ z, fromKeys) a
 
--- 21, or what the whole list gives with cleared work, which is cleared again
+-- refusal 21, or what the whole list gives with cleared work, which is cleared again
 module _ (keys work out : List ℕ) where
   pub work-small : length work < 4 → record { answer = record { refusal = 21; length = 0 }; output = out; work = work } ≡ buildOf keys work out
   unfolding buildOf outcomeOf answered workAfter

@@ -1,4 +1,4 @@
--- Words set to zero one after the other: those before i are.
+-- Words are set to zero one after the other: those before i are zero.
 use Prim.Native.Nat.{ℕ, _+_, _≤_, _<_}
 use native.Mathlib.Numerals.{add-one}
 use native.Mathlib.Omega.{arith}

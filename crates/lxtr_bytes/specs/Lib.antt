@@ -1,2 +1,2 @@
--- What the code computes of four bytes.
+-- What the code computes from four bytes.
 pub mod Swapping

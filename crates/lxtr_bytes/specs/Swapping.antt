@@ -1,10 +1,10 @@
--- Four bytes as a number, low end first, and the same number with its bytes in the other order.
+-- Four bytes as a number, lowest first, and the same number with its bytes in the other order.
 use Prim.Native.Nat.{ℕ, _+_, _*_, _/_, _%_, _^_, _<_}
 use mathlib.Core.Path.{_≡_, ap, _∙_}
 use native.Mathlib.Nat.{add-mul-mod-self-right, add-mul-div-right, mod-eq-of-lt, div-eq-of-lt, zero-add}
 use native.Mathlib.Omega.{arith}
 
--- the digits of a number in base n, low end first: the lowest, and what is left of the others
+-- the digits of a number in base n, lowest first: the lowest digit, and the number that the others form
 low : (n a q : ℕ) → a < n → (a + q * n) % n ≡ a
 low n a q h = add-mul-mod-self-right a q n ∙ mod-eq-of-lt h
 
@@ -17,7 +17,7 @@ below-16 a b h k = omega arith
 below-24 : (m c : ℕ) → m < 2 ^ 16 → c < 2 ^ 8 → m + c * 2 ^ 16 < 2 ^ 24
 below-24 m c h k = omega arith
 
--- x is the number of the bytes a to d, and r what swapping makes of it
+-- x is the number of the bytes a to d, lowest first, and r is x with its bytes swapped
 pub swapped-bytes : (a b c d x r : ℕ) → a < 2 ^ 8 → b < 2 ^ 8 → c < 2 ^ 8 → d < 2 ^ 8 → x ≡ a + b * 2 ^ 8 + c * 2 ^ 16 + d * 2 ^ 24 → r ≡ x % 2 ^ 8 * 2 ^ 24 + x / 2 ^ 8 % 2 ^ 8 * 2 ^ 16 + x / 2 ^ 16 % 2 ^ 8 * 2 ^ 8 + x / 2 ^ 24 → r ≡ a * 2 ^ 24 + b * 2 ^ 16 + c * 2 ^ 8 + d
 swapped-bytes a b c d x r ha hb hc hd e s =
     let by-8 : x ≡ a + (b + (c + d * 2 ^ 8) * 2 ^ 8) * 2 ^ 8 = omega (arith, e) in

@@ -1,4 +1,4 @@
--- The number that an entry answers is that of the operation's answer.
+-- The number that a C function returns is the number of the operation's answer.
 use Prim.Native.Nat.{ℕ, _*_, _/_, _^_, _<_}
 use native.Mathlib.Omega.{arith}
 use mathlib.Core.Path.{_≡_, ap, _∙_}
@@ -42,7 +42,7 @@ module _ (b : List ℕ) where
     unfolding probeNumber
     probe-number a n e h = rw (← e) h
 
-    -- the part that longest hands back has four bytes a label
+    -- the part that longest hands back has four bytes per label
     module _ (k : ℕ) (part : List ℕ) (e : _≡_ {A = LongestAnswer} (record { refusal = k; part = part }) (longestOf b q)) where
       longest-labels : length part / 4 ≡ longestLength b q
       unfolding longestOf

@@ -1,2 +1,2 @@
--- Laws of the C entries: the number that each answers.
+-- Laws of the functions for C: the number that each returns.
 pub mod EntryNumbers

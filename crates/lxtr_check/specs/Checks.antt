@@ -1,4 +1,4 @@
--- The check as the code makes it. Results of calls are variables: each law says which definition the tests of one return make.
+-- The check as the code makes it. Results of calls are variables: each law says which definition equals what one return computes.
 use Prim.Native.Nat.{ℕ}
 use mathlib.Core.Path.{_≡_, sym, _∙_}
 use mathlib.Core.Logic.{_≢_}

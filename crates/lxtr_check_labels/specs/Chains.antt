@@ -1,4 +1,4 @@
--- The chains of rule 9: a label can only be that of an earlier place of its own chain, so looking through the chain looks through all.
+-- The chains of rule 9: a label can only be equal to labels of its own chain, so it is enough to look through that chain.
 -- An entry of the tables is one more than a place, and 0 for none.
 use Prim.Native.Nat.{ℕ, zero, suc, _+_, _-_, _%_, _≤_, _<_}
 use mathlib.Core.Path.{_≡_, refl, sym, ap, _∙_}
@@ -39,12 +39,12 @@ pub record Chained (b : List ℕ) (i : ℕ) (last before : List ℕ) : Type 0 wh
   pub ends : (chain : ℕ) → chain < chainCount → getD last chain 0 ≡ lastIn b chain i
   pub links : (j : ℕ) → j < i → getD before j 0 ≡ lastIn b (chainOf (labelAt b j)) j
 
--- a number that fails adds nothing
+-- a number that fails the test changes nothing
 one-more : (f : ℕ → Bool) (n : ℕ) → f n ≡ false → anyBelow n f ≡ anyBelow (suc n) f
 unfolding anyBelow
 one-more f n e = rw (e, or-false)
 
--- the chains of labels are among those counted
+-- the chain of every label is one of those counted
 pub chain-below : (label : ℕ) → chainOf label < chainCount
 unfolding chainOf
 chain-below label = mod-lt label (omega arith)
@@ -58,7 +58,7 @@ module _ (b : List ℕ) where
   unfolding lastIn
   last-stays chain i e = rw (ne-eqb (chainOf (labelAt b i)) chain e)
 
-  -- it is one of the first i, and of its chain
+  -- it is one of the first i, and belongs to its chain
   last-within : (chain i : ℕ) → lastIn b chain i ≤ i
   unfolding lastIn
   last-within chain zero = omega arith
@@ -77,7 +77,7 @@ module _ (b : List ℕ) where
   unfolding sameLabel
   other-label i j n = ne-eqb (labelAt b j) (labelAt b i) n
 
-  -- looking no further than the last of the label's own chain misses none
+  -- it is enough to look as far as the last entry of the label's own chain
   chain-holds : (i n : ℕ) → anyBelow (lastIn b (chainOf (labelAt b i)) n) (sameLabel b i) ≡ anyBelow n (sameLabel b i)
   unfolding lastIn
   chain-holds i zero = refl
@@ -98,7 +98,7 @@ module _ (b : List ℕ) where
   }
 
   module _ (i : ℕ) (last before : List ℕ) (c : Chained b i last before) where
-    -- the label at place i comes to the end of its chain
+    -- the label at place i is appended to its chain
     pub chained-next : (label chain : ℕ) → Passed b → i < labelCount b → label ≡ labelAt b i → chain ≡ chainOf label → Chained b (i + 1) (set last chain (i + 1)) (set before i (getD last chain 0))
     chained-next label chain ok h same e = record {
       chains = length-set last chain (i + 1) ∙ c .chains;
@@ -133,7 +133,8 @@ module _ (b : List ℕ) where
     pub place-there : Passed b → i < labelCount b → i < length before
     place-there ok h = omega (arith, c .places, ok .labels)
 
--- going back through the chain of the label at place i: an earlier place lists that label exactly when one of the first `from` does
+-- The search goes back through the chain of the label at place i: an earlier place lists that label exactly when one of the first
+-- `from` places does.
 pub record Looking (b : List ℕ) (i entry : ℕ) : Type 0 where
   pub from : ℕ
   pub within : from ≤ i

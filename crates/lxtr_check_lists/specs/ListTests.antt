@@ -1,5 +1,4 @@
--- Rule 11 as the code makes it, test by test. Results of calls are variables: each law says which definition the tests of one return
--- make.
+-- Rule 11 as the code tests it. Results of calls are variables: each law says which definition equals what one return computes.
 use Prim.Native.Nat.{ℕ, _+_, _-_, _≤_, _<_}
 use mathlib.Core.Path.{_≡_, refl}
 use mathlib.Core.List.{List}
@@ -15,7 +14,7 @@ use Rattle.lxtr_laws.specs.Passed.{Passed}
 use Rattle.lxtr_laws.specs.ListPlaces.{in-list, in-children}
 use Rattle.lxtr_laws.specs.Faults.{offsets-right}
 
--- a loop that looks at all numbers below a bound m: r is whether one of those below i passes the test f
+-- a loop over all numbers below a bound m: r is whether one of those below i passes the test f
 pub record AnySoFar (f : ℕ → Bool) (i m : ℕ) (r : Bool) : Type 0 where
   pub to : i ≤ m
   pub any : r ≡ anyBelow i f
@@ -33,7 +32,7 @@ module _ (f : ℕ → Bool) (m : ℕ) where
     pub any-end : (bound : ℕ) → m ≡ bound → m ≤ i → r ≡ anyBelow bound f
     any-end bound same h = let e : i ≡ bound = omega (arith, s .to) in rw e at (s .any)
 
--- 11: where offsets don't fall, entry i of the list of slot p, which is w wide, is a child
+-- if no offset falls, entry i of the list of slot p, which is w wide, lies in the children array
 pub entry-place : (b : List ℕ) (p i w : ℕ) → Passed b → anyBelow (slotCount b) (offsetFalls b) ≡ false → p < slotCount b → w ≡ listWidth b p → i < w → offset b p + i < childCount b
 entry-place b p i w ok rising slot wide h = omega (arith, ok .last, in-children b (offsets-right b .0 rising) p (offset b p + i) slot (in-list b p (offset b p + i) .1 (omega arith)))
 
@@ -47,7 +46,7 @@ module _ (b : List ℕ) (p j t slots : ℕ) (count : slots ≡ slotCount b) (at 
   unfolding entryWrong
   entry-tested u q h used up = rw (← at, ← count, lt-leb slots t h, or-false, ← used, ← up)
 
--- and its code; o is where the list starts
+-- the code of entry j; o is where the list starts
 module _ (b : List ℕ) (p j o : ℕ) (from : o ≡ offset b p) where
   pub code-first : j ≤ o → false ≡ codeNotAbove b p j
   unfolding codeNotAbove
@@ -57,7 +56,7 @@ module _ (b : List ℕ) (p j o : ℕ) (from : o ≡ offset b p) where
   unfolding codeNotAbove
   code-later c d t u h at before code last = rw (← from, lt-ltb o j h, ← at, ← before, ← code, ← last)
 
--- r is whether offsets fall
+-- r is whether some offset falls
 module _ (b : List ℕ) (r : Bool) (falls : r ≡ anyBelow (slotCount b) (offsetFalls b)) where
   pub lists-fall : r ≡ true → true ≡ listsWrong b
   unfolding listsWrong

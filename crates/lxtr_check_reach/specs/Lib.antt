@@ -1,2 +1,2 @@
--- The ways of rule 12.
+-- The steps of rule 12.
 pub mod WaysUp

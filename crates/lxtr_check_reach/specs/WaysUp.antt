@@ -1,4 +1,4 @@
--- Rule 12: from which slots the way up comes to slot 0, and the way that the code makes, some steps at a time.
+-- Rule 12: from which slots the steps to the parent reach slot 0, and the steps as the code makes them, several at a time.
 use Prim.Native.Nat.{ℕ, zero, suc, _+_, _-_, _≤_, _<_}
 use mathlib.Core.Path.{_≡_, refl, sym, ap, _∙_}
 use mathlib.Core.Logic.{_⊎_, inl, inr, ⊎-elim}
@@ -15,7 +15,7 @@ use Rattle.lxtr_laws.specs.Passed.{Whole}
 use Rattle.lxtr_laws.specs.Facts.{UsedFrom2, Used, SlotRight, ancestor, unused-parent}
 use Rattle.lxtr_laws.specs.Faults.{used-from-2, slots-right}
 
--- 12: where no slot is wrong
+-- no slot is wrong
 module _ (b : List ℕ) (ok : Whole b) (right : slotsWrong b ≡ false) where
   right-at : (s : ℕ) → s < slotCount b → SlotRight b s
   right-at = slots-right b .0 right
@@ -30,17 +30,17 @@ module _ (b : List ℕ) (ok : Whole b) (right : slotsWrong b ≡ false) where
       go (suc (suc n)) r (no e) = inl (omega arith)
       go (suc (suc n)) r (yes e) = inr (omega arith, λ z. omega arith)
 
-  -- so a step to the parent comes to a slot
+  -- so a step to the parent reaches a slot
   parent-slot : (s : ℕ) → s < slotCount b → parent b s < slotCount b
   parent-slot s h = ⊎-elim (λ e. omega (arith, ok .sized .slots-from)) (λ u. right-at s h .used u .parent-below) (by-parent s h)
 
-  -- and a way up that comes to slot 0 stays there
+  -- and steps that reached slot 0 stay there
   stays : (k : ℕ) → ancestor b k 0 ≡ 0
   unfolding ancestor
   stays zero = refl
   stays (suc k) = ap (ancestor b k) (unused-parent (right-at 0 (omega (arith, ok .sized .slots-from)) .zero refl)) ∙ stays k
 
-  -- from a used slot it comes there one step after slot 1, and in no other way
+  -- from a used slot they reach slot 0 one step after slot 1, and in no other way
   one-later : (k s : ℕ) → s < slotCount b → Used b s → reaches b k s ≡ eqb (ancestor b (suc k) s) 0
   unfolding reaches ancestor
   one-later zero s h (inl e) = eq-eqb s 1 e ∙ sym (eq-eqb (parent b s) 0 (right-at s h .root e .1))
@@ -48,7 +48,7 @@ module _ (b : List ℕ) (ok : Whole b) (right : slotsWrong b ≡ false) where
   one-later (suc k) s h (inl e) = rw (eq-eqb s 1 e) (sym (eq-eqb (ancestor b (suc k) (parent b s)) 0 (ap (ancestor b (suc k)) (right-at s h .root e .1) ∙ stays (suc k))))
   one-later (suc k) s h (inr u) = let r = right-at s h .used u in rw (ne-eqb s 1 (λ z. omega (arith, u .0))) (one-later k (parent b s) (r .parent-below) (r .parent-used))
 
-  -- from any other slot in one step: so exactly those fail to come there that rule 12 refuses
+  -- from any other slot the first step reaches slot 0: so the slots that do not reach it are exactly those that rule 12 refuses
   way-up : (k s : ℕ) → s < slotCount b → not (eqb (ancestor b (suc k) s) 0) ≡ (isUsedFrom2 b s && not (reaches b k s))
   unfolding isUsedFrom2 ancestor
   way-up k s h = ⊎-elim none some (by-parent s h)
@@ -59,7 +59,7 @@ module _ (b : List ℕ) (ok : Whole b) (right : slotsWrong b ≡ false) where
       some : UsedFrom2 b s → not (eqb (ancestor b (suc k) s) 0) ≡ (isUsedFrom2 b s && not (reaches b k s))
       some u = rw (used-from-2 b s .1 u, one-later k s h (inr u))
 
--- n steps up from slot s lead to where k steps up from slot `at` do
+-- n steps up from slot s lead to the same slot as k steps up from slot `at`
 pub record Ascending (b : List ℕ) (n s k at : ℕ) : Type 0 where
   pub below : at < slotCount b
   pub rest : ancestor b n s ≡ ancestor b k at

@@ -1,5 +1,4 @@
--- Rule 10 as the code makes it, test by test. Results of calls are variables: each law says which definition the tests of one return
--- make.
+-- Rule 10 as the code tests it. Results of calls are variables: each law says which definition equals what one return computes.
 use Prim.Native.Nat.{ℕ, _≤_, _<_}
 use mathlib.Core.Path.{_≡_}
 use mathlib.Core.Logic.{_≢_}
@@ -19,7 +18,7 @@ no-parent : (b : List ℕ) (s : ℕ) → 2 ≤ s → isUsedFrom2 b s ≡ false �
 unfolding isUsedFrom2
 no-parent b s h e = simp tests at e h
 
--- 10: of a used slot s from 2 up, whose parent is p
+-- a used slot s from 2 up, whose parent is p
 module _ (b : List ℕ) (s p slots : ℕ) (count : slots ≡ slotCount b) (up : p ≡ parent b s) where
   pub parent-past : slots ≤ p → true ≡ usedSlotWrong b s
   unfolding usedSlotWrong
@@ -31,7 +30,7 @@ module _ (b : List ℕ) (s p slots : ℕ) (count : slots ≡ slotCount b) (up : 
   unfolding usedSlotWrong ownCode
   parent-tested u l t c labels h code used leaf listed own = rw (← up, ← count, lt-leb slots p h, ← code, ← used, ← leaf, ← listed, ← own)
 
--- slot s by its kind; f is what was found of its flag
+-- slot s by its kind; f is whether its flag is wrong
 module _ (b : List ℕ) (s : ℕ) where
   pub slot-zero : (z : Bool) → s ≡ 0 → z ≡ bothZero b s → not z ≡ slotWrong b s
   unfolding slotWrong isUsedFrom2

@@ -1,4 +1,4 @@
--- The counts of the labels: for each the number of keys that contain it.
+-- The counts of the labels: for each label, the number of keys that contain it.
 use Prim.Native.Nat.{ℕ, _+_, _-_, _^_, _≤_, _<_}
 use mathlib.Core.Path.{_≡_, refl, sym, ap, ap₂, _∙_, subst}
 use mathlib.Core.Logic.{_≢_, inl}
@@ -33,11 +33,11 @@ pub record Countable (key labels counts : List ℕ) : Type 0 where
   pub listed : (x : ℕ) → List·Memᴰ x key → List·Memᴰ x labels
   pub small : (i : ℕ) → i < length labels → getD counts i 0 ≤ maxKeys
 
--- the count of x, in counts that stand as the labels do, goes up by one, unless that is said to be done
+-- the count of x goes up by one, unless `again` says that this is done; the counts are in the order of the labels
 unfoldable pub countOnce : List ℕ → Bool → ℕ → List ℕ → List ℕ
 countOnce labels again x counts = cond again counts (set counts (placeIn labels x) (getD counts (placeIn labels x) 0 + 1))
 
--- the counts of the labels went up by one for those in the key
+-- the counts of those labels that are in the key went up by one
 pub record KeyCounted (key labels counts₀ counts : List ℕ) : Type 0 where
   pub size : length counts ≡ length counts₀
   pub each : (i : ℕ) → i < length labels → getD counts i 0 ≡ getD counts₀ i 0 + cond (contains key (getD labels i 0)) 1 0
@@ -49,7 +49,7 @@ pub record Counted (ps : List Pair) (labels counts : List ℕ) : Type 0 where
 one-at-most : (t : Bool) → cond t 1 0 ≤ 1
 one-at-most t = cond-within t 1 0 1 (omega arith) (omega arith)
 
--- ---- label j of a key is looked for among those before it; the first k of them are passed
+-- ---- label j of a key is looked for among the labels before it; the first k of them are passed
 
 abbrev pub Earlier : List ℕ → ℕ → ℕ → ℕ → ℕ → Type 0
 Earlier b at j x k = contains (take j (keyAt b at)) x ≡ contains (drop k (take j (keyAt b at))) x
@@ -119,7 +119,7 @@ module _ (b : List ℕ) (at : ℕ) (labels c₀ : List ℕ) (rising : Rising lab
     pub key-small : getD c place 0 ≤ maxKeys + 1
     key-small = omega (arith, so-far .each place (found .0), able .small place (found .0), one-at-most (contains (take j (keyAt b at)) (getD labels place 0)))
 
-    -- the label stands earlier in the key, or not
+    -- whether the label occurs earlier in the key
     module _ (again : Bool) (earlier : again ≡ contains (take j (keyAt b at)) (keyLabel b at j)) where
       earlier-x : again ≡ contains (take j (keyAt b at)) x
       earlier-x = rw is earlier

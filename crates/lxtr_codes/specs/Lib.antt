@@ -1,5 +1,5 @@
--- What the code computes, turn by turn. Of these a reader of its contracts meets standsAt, Gathered, what opens LabelCounting and Ranking,
--- Assigned and CodedFront, all in functions that no other crate calls.
+-- What the code computes, turn by turn. A reader of its contracts meets only standsAt, Gathered, the definitions that open
+-- LabelCounting and Ranking, Assigned and CodedFront, all in functions that no other crate calls.
 pub mod Inserting
 pub mod LabelGathering
 pub mod LabelCounting

@@ -1,5 +1,5 @@
--- How many pairs an accepted image can list: below a slot at most as many as there are children, once for each label allowed.
--- The bound holds even of the sum over all slots, as no slot is listed twice.
+-- How many pairs an accepted image can list: below a slot, with k labels allowed, at most k times as many as there are children.
+-- This bound even holds for the sum over all slots, because no slot is listed twice.
 use Prim.Native.Nat.{ℕ, zero, suc, _+_, _*_, _-_, _^_, _≤_, _<_}
 use mathlib.Core.Path.{_≡_, refl, sym, ap, _∙_}
 use mathlib.Core.List.{List}
@@ -20,7 +20,7 @@ use Rattle.lxtr_laws.specs.ListEntries.{sorted-lists, child-used}
 use Rattle.lxtr_complete.specs.Sums.{total, total-none, total-has, total-one-more, total-split, total-part}
 
 module _ (b : List ℕ) where
-  -- at most so many pairs are below slot n, with k labels allowed
+  -- an upper bound on the pairs below slot n, with k labels allowed
   most : ℕ → ℕ → ℕ
   most zero n = 0
   most (suc k) n = total (listWidth b n) (λ i. 1 + most k (child b (offset b n + i)))
@@ -41,7 +41,7 @@ module _ (b : List ℕ) where
       go ih j false e = rw (entryPairs, e) (le-trans (ih (child b j) _) (omega arith))
 
   module _ (a : Accepted b) where
-    -- the lists lie one after the other
+    -- the lists are one after the other in the children array
     lists-all : (f : ℕ → ℕ) (m : ℕ) → m ≤ slotCount b → total m (λ n. total (listWidth b n) (λ i. f (offset b n + i))) ≡ total (offset b m) f
     unfolding total listWidth
     lists-all f zero h = rw (a .first)

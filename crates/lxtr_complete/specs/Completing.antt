@@ -51,7 +51,7 @@ module _ (xs path₀ : List ℕ) where
     pub path-end : m ≤ i → take (length xs) path ≡ xs
     path-end h = let e : i ≡ length xs = omega (arith, p .so-far) in rw e at (p .same) ∙ take-length xs
 
--- what the listing asks when it starts behind version and count, and what it answers: the path has the labels xs at its front
+-- what the listing requires when it starts after version and count, and what it answers: the path has the labels xs at its front
 module _ (b xs : List ℕ) (n m : ℕ) (path room : List ℕ) (allowed : length xs ≤ maxLabels) (count : m ≡ length xs) where
   pub list-ready : n < slotCount b → length path ≡ lengthCount → 5 ≤ length room → ListReady b (lengthCount - m) n path room 5 0
   list-ready slot long enough = record { slot-below = slot; labels-left = omega arith; path-long = long; at-in = enough; count-in = omega arith }
@@ -60,7 +60,7 @@ module _ (b xs : List ℕ) (n m : ℕ) (path room : List ℕ) (allowed : length 
       → r ≡ written room (listFrom b (lengthCount - length xs) n xs)
   reached-done r labels e = let z : lengthCount - (lengthCount - m) ≡ length xs = omega arith in rw (z, labels, count) at e
 
--- the listing that starts there: the room is r after the records, and r′ after version and count
+-- the listing that starts there: the room is r once the records are written, and r′ once version and count are
 module _ (b : List ℕ) (left n : ℕ) (path room : List ℕ) (ready : ListReady b left n path room 5 0) where
   module _ (r : List ℕ) (at count : ℕ) (listed : state r at count ≡ after (state room 5 0) (listFrom b left n (take (lengthCount - left) path))) where
     pub count-fits : Accepted b → count < 2 ^ 32
@@ -74,7 +74,7 @@ pub written-none : (room r : List ℕ) → 5 ≤ length room → r ≡ over room
 unfolding after
 written-none room r h e = written-done room room r [] 5 0 h refl e
 
--- the pairs below the slot for which the walk answered f
+-- the pairs below the slot that the walk reached; f is the walk's answer
 module _ (b xs room : List ℕ) (f : Found) (answer : found f ≡ walkWithin b xs) (r : CompletionAnswer) where
   pub listed-nowhere : f ≡ Nothing → r ≡ written room [] → r ≡ written room (pairsBelow b xs)
   unfolding pairsBelow pairsAt
@@ -104,7 +104,7 @@ module _ (b q room : List ℕ) where
       unfolding completionRefusal firstRefusal refuseIf
       completion-allowed y h = rw (sym first ∙ z, sym body ∙ y, le-ltb (length room) 5 h)
 
-  -- r is the refusal of all
+  -- r is the refusal of completion
   module _ (r : ℕ) (known : r ≡ completionRefusal b q room) where
     pub completion-refused : (r ≡ 0 → ⊥) → completionAnswer r 0 false room ≡ completionOf b q room
     unfolding completionOf

@@ -1,4 +1,4 @@
--- What the code of completion computes, turn by turn. Of these a reader of its contracts, all of private functions, meets the
+-- What the code of completion computes, turn by turn. A reader of its contracts, all of private functions, meets only the
 -- definitions that open RecordWriting and Listing.
 pub mod RecordWriting
 pub mod Written

@@ -1,5 +1,5 @@
--- The listing of the pairs below a slot, as the code makes it: a record for its end, then entry by entry all pairs below the child.
--- The path holds the labels of the key; what is left to do after each entry makes the whole.
+-- The listing of the pairs below a slot, as the code makes it: a record for its end, then for each other entry all pairs below it.
+-- The path holds the labels of the key. After each entry, what is left to do completes the whole.
 use Prim.Native.Nat.{ℕ, suc, _+_, _-_, _≤_, _<_}
 use mathlib.Core.Path.{_≡_, refl, sym, ap, _∙_}
 use mathlib.Core.Logic.{_≢_}
@@ -31,18 +31,18 @@ pub record CodeListed (b : List ℕ) (c : ℕ) : Type 0 where
   pub from : 1 ≤ c
   pub to : c - 1 < labelCount b
 
--- an entry of a children list that is no end: the child, and the label that leads to it from a base
+-- an entry of a children list that is not an end: the child, and the label that leads to it from a slot with base a
 pub record EntryOf (b : List ℕ) (a j s x : ℕ) : Type 0 where
   pub slot-is : s ≡ child b j
   pub label-is : x ≡ labelOfCode b (codeUnder a (child b j))
 
--- whether the list of slot n starts with an end, 1 or 0; the entries behind it are no ends
+-- how many ends the list of slot n starts with, 1 or 0; the entries after that are not ends
 pub record EndsOf (b : List ℕ) (n ends : ℕ) : Type 0 where
   pub within : offset b n + ends ≤ offset b (n + 1)
   pub first : ends ≢ 0 → (ends ≡ 1) × (isLeaf b (child b (offset b n)) ≡ true)
   pub inner : (j : ℕ) → InList b n j → offset b n + ends ≤ j → isLeaf b (child b j) ≡ false
 
--- the pair of that end; the labels key reach slot n
+-- the pair of that end, if there is one; the labels `key` reach slot n
 unfoldable pub endPairs : List ℕ → ℕ → ℕ → List ℕ → List Pair
 endPairs b n ends key = cond (eqb ends 0) [] ((key, valueNumber b (child b (offset b n))) ∷ [])
 
@@ -51,7 +51,7 @@ pub record Kept (len : ℕ) (path path′ : List ℕ) : Type 0 where
   pub same : take len path′ ≡ take len path
   pub long : length path′ ≡ length path
 
--- what the listing below a slot asks, with `left` labels still allowed
+-- what the listing below a slot requires, with `left` labels still allowed
 pub record ListReady (b : List ℕ) (left n : ℕ) (path room : List ℕ) (at count : ℕ) : Type 0 where
   pub slot-below : n < slotCount b
   pub labels-left : left ≤ lengthCount
@@ -82,7 +82,7 @@ module _ (b : List ℕ) (ok : Accepted b) (n : ℕ) (slot : n < slotCount b) whe
   later-inner : (j : ℕ) → InList b n j → offset b n < j → isLeaf b (child b j) ≡ false
   later-inner j place h = leaf-code j place ∙ ne-eqb (codeTo b n (child b j)) 0 (λ z. omega (arith, ok .lists .entry n j slot place .above h))
 
-  -- an end lies at the base, and the flag says so
+  -- an end is at the base, and the flag says whether there is one
   pub no-flag : (l : Bool) → l ≡ hasLeaf b n → not l ≡ true → EndsOf b n 0
   unfolding endExists hasParent
   no-flag l is unset = record { within = omega (arith, ok .lists .rising n slot); first = λ z. absurd (z refl); inner = λ j place _. go j place (isLeaf b (child b j)) refl }
@@ -99,7 +99,7 @@ module _ (b : List ℕ) (ok : Accepted b) (n : ℕ) (slot : n < slotCount b) whe
           let from : n ≢ 0 = rw up at (u .1 .1) in
           absurd (true≢false (sym there ∙ sym (ok .slots n slot .flag (omega arith)) ∙ sym is ∙ not-is-true l .0 unset))
 
-  -- t is the offset behind the list
+  -- f is where the list starts, and t where it ends
   module _ (f t : ℕ) (from : f ≡ offset b n) (to : t ≡ offset b (n + 1)) where
     pub no-list : t ≤ f → EndsOf b n 0
     no-list h = record {
@@ -146,14 +146,14 @@ module _ (b : List ℕ) (n ends len : ℕ) (path : List ℕ) (s₀ : State) wher
   pub end-place : EndsOf b n ends → (ends ≡ 0 → ⊥) → (f : ℕ) → f ≡ offset b n → InList b n f
   end-place known z f from = record { from = omega arith; to = omega (arith, known .within, known .first z .0) }
 
-  -- the child t with value v
+  -- t is the child that is the end, and v its value
   pub end-put : (ends ≡ 0 → ⊥) → (r : List ℕ) (at count : ℕ) → PutReady len path r at count → (f t v : ℕ) → f ≡ offset b n → t ≡ child b f → v ≡ valueNumber b t
       → (s : State) → s ≡ put s₀ (take len (set path len v), getD (set path len v) len 0) → s ≡ after s₀ (endPairs b n ends (take len path))
   unfolding endPairs after
   end-put z r i c p f t v from at value s e =
       e ∙ rw (ne-eqb ends 0 z, take-set-le len path len v (omega arith), getD-set-same path len v 0 (omega (arith, p .path-long, p .len-small)), value, at, from)
 
--- the end and then the entries behind it are all entries
+-- the end and then the entries after it are all entries
 end-first : (b : List ℕ) (n ends : ℕ) → EndsOf b n ends → (below : ℕ → List ℕ → List Pair) (key : List ℕ) (s : State)
     → after (after s (endPairs b n ends key)) (concatFrom (offset b (n + 1) - (offset b n + ends)) (offset b n + ends) (entryPairs b below n key))
     ≡ after s (concatFrom (offset b (n + 1) - offset b n) (offset b n) (entryPairs b below n key))
@@ -182,8 +182,8 @@ kept-set len x path = record { same = take-set-le len path len x (omega arith); 
 abbrev restOf : List ℕ → ℕ → ℕ → List ℕ → ℕ → ℕ → List Pair
 restOf b left n key end j = concatFrom (end - j) j (entryPairs b (listFrom b (left - 1)) n key)
 
--- What the loop over the entries of slot n keeps, at entry j of those from j₁ up to `end`: what is left to do makes all that was left
--- when it started, and the labels of the key stay in the path.
+-- What the loop over the entries of slot n keeps, at entry j of those from j₁ up to `end`: what is left to do completes all that
+-- was left when the loop started, and the labels of the key stay in the path.
 pub record ListedSoFar (b : List ℕ) (left n len end j₁ j : ℕ) (path₁ path : List ℕ) (s₁ s : State) : Type 0 where
   pub todo : after s (restOf b left n (take len path₁) end j) ≡ after s₁ (restOf b left n (take len path₁) end j₁)
   pub place-from : j₁ ≤ j
@@ -205,7 +205,7 @@ module _ (b : List ℕ) (left n len : ℕ) (path₀ r₀ : List ℕ) (at₀ coun
       count-in = ready .count-in;
     }
 
-    -- the end is done
+    -- the end is listed
     module _ (ends f end : ℕ) (known : EndsOf b n ends) (from : f ≡ offset b n) (to : end ≡ offset b (n + 1)) (path₁ : List ℕ) (s₁ : State)
         (s₁-is : s₁ ≡ after (state r₀ at₀ count₀) (endPairs b n ends (take len path₀))) (kept₁ : Kept len path₀ path₁) (room₁ : length (s₁ .room) ≡ length r₀) where
       pub going-start : ListedSoFar b left n len end (f + ends) (f + ends) path₁ path₁ s₁ s₁

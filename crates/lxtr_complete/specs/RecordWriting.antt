@@ -1,5 +1,5 @@
--- The state of a listing while its records are written: one after the other, up to the first without room.
--- After one part of the pairs comes the rest, and a listing that stopped stays as it is.
+-- The state of a listing while its records are written, one after the other, up to the first that has no room.
+-- The pairs may be written in parts, one part after the other. A listing that stopped stays as it is.
 use Prim.Native.Nat.{ℕ, _+_, _*_, _-_, _≤_, _<_}
 use mathlib.Core.Path.{_≡_, refl, sym}
 use mathlib.Core.Logic.{_≢_}
@@ -18,7 +18,7 @@ use Rattle.lxtr_laws.specs.ByteOrders.{big, words-append, words-one}
 use Rattle.lxtr_laws.specs.Lengths.{record-length}
 use Rattle.lxtr_laws.specs.Overlays.{over, over-length, byte-before}
 
--- the room, the place of the next record, which is 0 when one had no room, and how many are in
+-- the room; the place of the next record, or 0 once a record had no room; and the number of records written
 pub record State : Type 0 where
   pub room : List ℕ
   pub at : ℕ
@@ -27,7 +27,7 @@ pub record State : Type 0 where
 abbrev pub state : List ℕ → ℕ → ℕ → State
 state room at count = record { room = room; at = at; count = count }
 
--- after one record more, or the stop
+-- the state after one more record, or after the stop
 unfoldable pub put : State → Pair → State
 put s p =
     cond (eqb (s .at) 0) s
@@ -35,24 +35,24 @@ put s p =
     (state (over (s .room) (s .at) (recordOf p)) (s .at + length (recordOf p)) (s .count + 1))
     (state (s .room) 0 (s .count)))
 
--- after the records of all pairs, up to the first without room
+-- the state after the records of all pairs, up to the first that has no room
 unfoldable pub after : State → List Pair → State
 after s [] = s
 after s (p ∷ ps) = after (put s p) ps
 
--- the place is in the room, and there are fewer records than bytes before it
+-- the place is in the room, and there are fewer records than bytes before that place
 pub record InRoom (s : State) : Type 0 where
   pub at-in : s .at ≤ length (s .room)
   pub count-in : s .at ≢ 0 → s .count < s .at
 
--- what the writing of a record asks: its labels are the first `len` of a path, and the value comes next
+-- what the writing of a record requires: its labels are the first `len` words of a path, and its value is the next one
 pub record PutReady (len : ℕ) (path room : List ℕ) (at count : ℕ) : Type 0 where
   pub path-long : length path ≡ lengthCount
   pub len-small : len ≤ maxLabels
   pub at-in : at ≤ length room
   pub count-in : count < at
 
--- one record more
+-- one more record
 module _ (s : State) (p : Pair) where
   put-stopped : s .at ≡ 0 → put s p ≡ s
   unfolding put
@@ -82,7 +82,7 @@ in-room-put s p f = go (eqb (s .at) 0) (leb (length (recordOf p)) (length (s .ro
           count-in = λ _. omega (arith, f .count-in (eqb-false (s .at) 0 d), record-length p);
         }
 
--- records of several pairs
+-- the records of several pairs
 pub in-room-after : (s : State) (ps : List Pair) → InRoom s → InRoom (after s ps)
 unfolding after
 in-room-after s [] f = f
@@ -98,7 +98,7 @@ unfolding after
 after-stopped s [] e = refl
 after-stopped s (p ∷ ps) e = rw (put-stopped s p e) (after-stopped s ps e)
 
--- The record of the first `len` words of the path as labels and the next one as value: it makes r′ of the room r.
+-- The record whose labels are the first `len` words of the path, and whose value is the next word: it turns the room r into r′.
 module _ (r path : List ℕ) (at len count : ℕ) (ready : PutReady len path r at count) where
   long : len < length path
   long = omega (arith, ready .path-long, ready .len-small)

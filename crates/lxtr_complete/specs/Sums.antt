@@ -1,4 +1,4 @@
--- Sums over the numbers below a bound. What different numbers give is at most what all give.
+-- Sums over the numbers below a bound. What f gives for some different numbers is at most what it gives for all.
 use Prim.Native.Nat.{ℕ, zero, suc, _+_, _≤_, _<_}
 use mathlib.Core.Path.{_≡_, refl, sym}
 use mathlib.Core.Logic.{_≢_, _⊎_, inl, inr}
@@ -9,7 +9,7 @@ use lib.Dec.{eqb}
 use borrow.Author.Tests.{eq-eqb, ne-eqb}
 use Rattle.lxtr_laws.specs.RangeTests.{below-suc}
 
--- the sum of what the numbers below n give
+-- the sum of what f gives for the numbers below n
 unfoldable pub total : ℕ → (ℕ → ℕ) → ℕ
 total zero f = 0
 total (suc n) f = total n f + f n
@@ -67,7 +67,7 @@ module _ (s : ℕ) (f : ℕ → ℕ) where
           rw (← e, without-self) (omega (arith, rw (← e) at same))
       go (inr l) ih = rw (without-other n (omega arith)) (omega (arith, ih l))
 
--- what different numbers below n give is a part of what all give
+-- what f gives for m different numbers below n is at most what it gives for all numbers below n
 pub total-part : (m n : ℕ) (to f : ℕ → ℕ) → ((i : ℕ) → i < m → to i < n) → ((i j : ℕ) → i < m → j < m → to i ≡ to j → i ≡ j) → total m (λ i. f (to i)) ≤ total n f
 unfolding total
 total-part zero n to f lands differ = omega arith

@@ -1,4 +1,4 @@
--- The records of pairs that are written one after the other are those that the definition `written` says, behind version and count.
+-- The records of pairs written one after the other are those of the definition `written`, after version and count.
 use Prim.Native.Nat.{ℕ, suc, _+_, _-_, _≤_}
 use mathlib.Core.Path.{_≡_, refl, sym, ap, _∙_}
 use mathlib.Core.Logic.{_≢_}
@@ -17,11 +17,11 @@ use Rattle.lxtr_laws.specs.Lengths.{records-length, listing-length}
 use Rattle.lxtr_laws.specs.Overlays.{over, over-length, over-none, over-over}
 use Rattle.lxtr_complete.specs.RecordWriting.{State, state, put, after, put-fits, put-not, after-stopped}
 
--- the state after those records that fit
+-- the state after the records that fit
 abbrev filled : List ℕ → ℕ → ℕ → List Pair → List Pair → State
 filled room at count ps fit = state (over room at (recordsOf fit)) (cond (ltb (length fit) (length ps)) 0 (at + length (recordsOf fit))) (count + length fit)
 
--- the records of all pairs, up to the first without room, are those that fit
+-- the records of all pairs, up to the first that has no room, are those that fit
 after-all : (ps : List Pair) (room : List ℕ) (at count : ℕ) → at ≢ 0 → at ≤ length room → after (state room at count) ps ≡ filled room at count ps (fitting (length room - at) ps)
 unfolding after fitting recordsOf
 after-all [] room at count z h = rw (over-none, add-zero at, add-zero count)
@@ -50,21 +50,21 @@ fitting-length r (p ∷ ps) = go (leb (length (recordOf p)) r) (fitting-length (
     go true h = omega arith
     go false h = omega arith
 
--- no more records than pairs
+-- there are no more records than pairs
 pub after-count : (room r : List ℕ) (ps : List Pair) (at count : ℕ) → 5 ≤ length room → state r at count ≡ after (state room 5 0) ps → count ≤ length ps
 after-count room r ps at count h e = omega (arith, ap (λ (s : State). s .count) (e ∙ after-all ps room 5 0 (λ z. omega arith) h), fitting-length (length room - 5) ps)
 
--- the place that a listing ends at says whether it stopped
+-- the place at which a listing ends says whether it stopped
 stop-told : (t : Bool) (at k : ℕ) → at ≡ cond t 0 (5 + k) → eqb at 0 ≡ t
 stop-told true at k e = eq-eqb at 0 e
 stop-told false at k e = ne-eqb at 0 (λ z. omega arith)
 
--- version and count over the front of a room whose records start behind them
+-- version and count at the front of a room whose records start after them
 headed : (room xs : List ℕ) (count : ℕ) → 5 ≤ length room → over (over room 5 xs) 0 (1 ∷ beBytes count) ≡ 1 ∷ (beBytes count ++ (xs ++ drop (5 + length xs) room))
 unfolding over beBytes
 headed room xs count h = ap (λ (l : List ℕ). 1 ∷ (beBytes count ++ l)) (drop-at (take 5 room) (xs ++ drop (5 + length xs) room) 5 (length-take-le 5 room h))
 
--- all records, and then version and count: the room is r after the records and r′ in the end
+-- all records, and then version and count: the room is r after the records and r′ at the end
 pub written-done : (room r r′ : List ℕ) (ps : List Pair) (at count : ℕ) → 5 ≤ length room → state r at count ≡ after (state room 5 0) ps
     → r′ ≡ over r 0 (1 ∷ beBytes count) → completionAnswer 0 count (eqb at 0) r′ ≡ written room ps
 unfolding written listedIn listingOf

@@ -1,4 +1,4 @@
--- Drawings of document 01's examples, computed on the definitions; and lines and decisions that these do not have.
+-- Drawings of document 01's examples, computed on the definitions; also lines and decisions that do not occur in these.
 use Prim.Native.Nat.{ℕ}
 use Prim.Native.String.{String}
 use mathlib.Core.Path.{_≡_, refl}
@@ -41,7 +41,7 @@ slots3 =
     ∷ "  s3 -> s6 [label=\"a 61\"];\n"
     ∷ []
 
--- the slot of an entry, for a list of them
+-- the slot in whose list an entry lies, as a list of one number
 unfoldable pub listAt : List ℕ → ℕ → List ℕ
 listAt b j = listOf b j ∷ []
 
@@ -81,16 +81,16 @@ examples =
     ∷ "  s3 -> s4 [label=\"entry 2\", style=dashed, constraint=false, color=\"#E00000\", fontcolor=\"#E00000\"];\n"
     ∷ "  s6 -> s2 [label=\"entry 3\", style=dashed, constraint=false, color=\"#202020\", fontcolor=\"#202020\"];\n"
     ∷ [])
-    -- slots 0 and 1 of P1 hold nothing: slot 1 is drawn, slot 0 only where it is at fault
+    -- slots 0 and 1 of P1 hold nothing: slot 1 is drawn anyway, slot 0 only if it is at fault
     ∷ whole p1 Nowhere ("  s1 [label=\"slot 1\\nbase 0\\nparent 0\", peripheries=1, color=\"#202020\", fontcolor=\"#202020\"];\n" ∷ [])
     ∷ slot p1 (Slot 0) 0 ("  s0 [label=\"slot 0\\nbase 0\\nparent 0\", peripheries=1, color=\"#E00000\", fontcolor=\"#E00000\"];\n" ∷ [])
-    -- P8: an unused slot that holds something; it has no step, and neither has one whose parent is not below N
+    -- P8: an unused slot that holds something; no step is drawn to it, nor to a slot whose parent is not below N
     ∷ slot p8-slot Nowhere 5 ("  s5 [label=\"slot 5\\nbase 7\\nparent 0\", peripheries=1, color=\"#202020\", fontcolor=\"#202020\"];\n" ∷ [])
     ∷ slot (imageBytes (set nodes3 5 7) offsets3 children3 labels3) (Slot 2) 2
     ("  s2 [label=\"slot 2\\nvalue 1\\nparent 7\", style=rounded, color=\"#E00000\", fontcolor=\"#E00000\"];\n" ∷ [])
     -- a step by a code that has no label
     ∷ step 1 5 "  s1 -> s5 [label=\"code 7\"];\n"
-    -- each case of a fault: a label is not a slot, and the slot whose list an entry is in is not at fault
+    -- each kind of fault: a label is not a slot, and the slot in whose list a wrong entry lies is not at fault
     ∷ at-fault Nowhere 0 false false ∷ at-fault (Label 2) 2 false false ∷ at-fault (Slot 2) 2 true false ∷ at-fault (Slot 2) 3 false false
     ∷ at-fault (Offset 2) 2 true false ∷ at-fault (Entry 3 2) 3 false false ∷ at-fault (Entry 3 2) 2 false true
     ∷ at-fault (Unlisted 2) 2 true false ∷ at-fault (Childless 2) 2 true false ∷ at-fault RootBase 1 true false ∷ at-fault (Unreachable 2) 2 true false

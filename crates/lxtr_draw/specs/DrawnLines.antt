@@ -1,4 +1,4 @@
--- The lines of a drawing, and which of them are drawn: each return of the code is a case of the definition, with what was read.
+-- The lines of a drawing, and which of them are drawn: each return of the code is a case of the definition.
 use Prim.Native.Nat.{ℕ, _-_, _≤_, _<_}
 use native.Mathlib.Omega.{arith}
 use mathlib.Core.Path.{_≡_, refl, sym, ap, _∙_}
@@ -56,14 +56,14 @@ entry-put b p j wrong c t e f line l r q = rw (entryLine, sym e, sym f) q
 
 -- ---- what is drawn
 
--- a test of a fault is that of its case
+-- the test for a fault is the test for its case
 pub slot-case : (f g : Fault) (s : ℕ) (t : Bool) → f ≡ g → t ≡ isWrongSlot g s → t ≡ isWrongSlot f s
 slot-case f g s t e h = rw e h
 
 pub entry-case : (f g : Fault) (j : ℕ) (t : Bool) → f ≡ g → t ≡ isWrongEntry g j → t ≡ isWrongEntry f j
 entry-case f g j t e h = rw e h
 
--- t tells whether the slot is drawn
+-- t is whether the slot is drawn
 module _ (b : List ℕ) (f : Fault) (s : ℕ) (t : Bool) (drawn-is : t ≡ isDrawn b f s) (line : List ℕ) where
   pub slot-left-out : not t ≡ true → Appended line 0 (slotText b f s) line 0
   unfolding slotText
@@ -98,7 +98,7 @@ pub entry-drawn : (b : List ℕ) (f : Fault) (j p : ℕ) (w : Bool) → p ≡ li
 unfolding entryText
 entry-drawn b f j p w e h line l r q = rw (entryText, sym e, sym h) q
 
--- a slot to which a step is drawn holds its parent, so it is drawn too
+-- a slot to which a step is drawn has a parent, so the slot is drawn too
 pub step-to-drawn : (b : List ℕ) (f : Fault) (s : ℕ) → hasStep b s ≡ true → isDrawn b f s ≡ true
 unfolding hasStep isDrawn bothZero parent
 step-to-drawn b f s e =

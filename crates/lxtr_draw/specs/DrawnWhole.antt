@@ -1,4 +1,4 @@
--- The lines of a drawing go whole into a line of LINE_ROOM bytes, and so does what is drawn of a slot, of a step and of an entry.
+-- The lines of a drawing fit wholly into a line of LINE_ROOM bytes, and so does what is drawn of a slot, of a step and of an entry.
 use Prim.Native.Nat.{ℕ, _+_, _*_, _≤_}
 use native.Mathlib.Omega.{arith}
 use mathlib.Core.Path.{_≡_, refl}
@@ -14,7 +14,7 @@ use Rattle.lxtr_command_spec.specs.Commands.{asciiFrom, ascii}
 use Rattle.lxtr_command_spec.specs.Drawings.{slotLine, stepLine, entryLine, isWrongSlot, isWrongEntry, isDrawn, slotText, hasStep, stepText, listOf, entryText}
 use Rattle.lxtr_text.specs.Rooms.{formRoom, lineRoom, marks, form-fits}
 
--- a form that has room with ten bytes for each mark, whatever the numbers
+-- a form that fits with ten bytes for each mark fits whatever the numbers are
 fits : (form ns : List ℕ) → leb (length form + 9 * marks form) formRoom ≡ true → length (filled form ns) ≤ lineRoom
 fits form ns e = form-fits form ns (leb-true (length form + 9 * marks form) formRoom e)
 

@@ -1,5 +1,5 @@
--- In whose list an entry lies: in that of the slot that `listOf` says. No list before it ends behind the entry, and from one entry to the
--- next the slot does not fall: so one pass over the slots finds the slots of all entries.
+-- An entry lies in the list of the slot that `listOf` gives. No list before it ends after the entry, and from one entry to the next
+-- the slot does not go down: so one pass over the slots finds the slots of all entries.
 use Prim.Native.Nat.{ℕ, zero, suc, _+_, _-_, _^_, _≤_, _<_}
 use mathlib.Core.Path.{_≡_}
 use mathlib.Core.List.{List}
@@ -27,7 +27,7 @@ module _ (b : List ℕ) (j : ℕ) where
       (leb-true (offset b p) j (e .0), ltb-true j (offset b (p + 1)) (e .1))
 
   module _ (passed : Passed b) where
-    -- no list up to that one begins behind the entry
+    -- no list up to that one begins after the entry
     before : (p : ℕ) → p ≤ listOf b j → offset b p ≤ j
     unfolding liesIn
     before zero h = omega (arith, passed .first)
@@ -44,7 +44,7 @@ module _ (b : List ℕ) (j : ℕ) where
         go (yes l) = l
         go (no g) = absurd (omega (arith, before (slotCount b) (omega arith), passed .last))
 
-    -- from a slot p that is not behind it; n is where the list of p ends
+    -- p is not after that slot; n is where the list of p ends
     module _ (p : ℕ) (so-far : p ≤ listOf b j) where
       pub list-place : j < childCount b → p + 1 ≤ slotCount b
       list-place h = omega (arith, list-there h)
@@ -72,7 +72,7 @@ module _ (b : List ℕ) (j : ℕ) where
             go (yes k) = absurd (omega (arith, before (p + 1) (omega arith)))
             go (no g) = omega arith
 
--- the slot of the next entry is not before
+-- the slot of the next entry is not before that of this one
 pub list-on : (b : List ℕ) (j p : ℕ) → Passed b → p ≡ listOf b j → p ≤ listOf b (j + 1)
 list-on b j p passed e = go (decLt (listOf b (j + 1)) p)
   where

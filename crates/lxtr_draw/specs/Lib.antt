@@ -1,5 +1,5 @@
--- The code's returns by the cases of the definitions (DrawnLines), and in whose list an entry lies (EntryLists). DrawnWhole says that no
--- line is cut, and DrawingExamples is a table of examples.
+-- The code's returns as cases of the definitions (DrawnLines), and in which list an entry lies (EntryLists). DrawnWhole says that
+-- no line is cut, and DrawingExamples is a table of examples.
 pub mod DrawnLines
 pub mod EntryLists
 pub mod DrawnWhole

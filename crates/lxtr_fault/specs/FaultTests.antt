@@ -1,5 +1,5 @@
--- Where a fault lies as the code finds it, test by test. Results of calls are variables: each law says which definition the tests of
--- one return make.
+-- Where a fault lies, as the code finds it. Results of calls are variables: each law says which definition equals what one return
+-- computes.
 use Prim.Native.Nat.{ℕ, _+_, _-_, _^_, _≤_, _<_}
 use mathlib.Core.Path.{_≡_, sym}
 use mathlib.Core.Logic.{_≢_}
@@ -41,7 +41,7 @@ module _ (b : List ℕ) (s : ℕ) (u : Bool) (used : u ≡ isUsedFrom2 b s) wher
     unfolding unlisted
     listed-tested r e = rw (is, ← up, ← e)
 
--- the first wrong entry of the list of slot p, by its place in the children array; o is where the list starts, i how many places into it
+-- the first wrong entry of the list of slot p, by its place in the children array: o is where the list starts, i how far into it
 module _ (b : List ℕ) (p o i : ℕ) (from : o ≡ offset b p) (is : i ≡ firstBelow (listWidth b p) (entryWrongIn b p)) where
   pub entry-fits : Passed b → anyBelow (slotCount b) (offsetFalls b) ≡ false → p < slotCount b → Fits w32 (o + i)
   unfolding listWidth
@@ -55,7 +55,7 @@ module _ (b : List ℕ) (p o i : ℕ) (from : o ≡ offset b p) (is : i ≡ firs
   unfolding entryFaultOf
   entry-placed = rw (from, is)
 
--- 11: p is where offsets fall first
+-- refusal 11: p is the first slot at which the offsets fall
 module _ (b : List ℕ) (slots p : ℕ) (count : slots ≡ slotCount b) (fall : p ≡ firstBelow (slotCount b) (offsetFalls b)) where
   pub list-offset : p < slots → Offset p ≡ listFault b
   unfolding listFault faultIf offsetFault
@@ -114,7 +114,7 @@ module _ (b : List ℕ) (r : ℕ) (known : r ≡ imageRefusal b) where
     pub whole-from : Whole b
     whole-from = passed-from .whole
 
-    -- beyond 10
+    -- refusals 11 and 12
     module _ (not-9 : r ≢ 9) (not-10 : r ≢ 10) where
       pub slots-from : slotsWrong b ≡ false
       slots-from = slots-right-by b r h (sym known) (omega arith)

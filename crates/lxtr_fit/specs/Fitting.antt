@@ -1,4 +1,4 @@
--- The loops of first fit: over the codes under one base, and over the bases. What is left to look at makes the whole.
+-- The loops of first fit: over the codes for one base, and over the bases. What is left to look at decides the whole.
 use Prim.Native.Nat.{ℕ, suc, _+_, _-_, _≤_, _<_}
 use mathlib.Core.Path.{_≡_, refl, sym, ap, _∙_}
 use mathlib.Core.List.{List}

@@ -21,7 +21,7 @@ module _ (W : ℕ) where
   unfolding slotsIn
   most-slots h = omega arith
 
--- r says whether t is one of 2 to S - 1
+-- r is whether t is one of 2 to S - 1
 module _ (S t : ℕ) (r : Bool) (is : r ≡ (leb 2 t && ltb t S)) where
   slot-below : not r ≡ false → t < S
   slot-below n = ltb-is-true t S .0 (and-is-true (leb 2 t) (ltb t S) .0 (sym is ∙ not-false r n) .1)

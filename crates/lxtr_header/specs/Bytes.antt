@@ -1,4 +1,4 @@
--- Bytes of the header compared as numbers of 32 bits: two such numbers differ exactly where one of their bytes does.
+-- Bytes of the header compared as numbers of 32 bits: two such numbers differ exactly when one of their bytes does.
 use Prim.Native.Nat.{ℕ, _+_, _*_, _^_, _<_}
 use mathlib.Core.Path.{_≡_, refl, sym}
 use mathlib.Core.Bool.{Bool, true, false, _||_, not}
@@ -11,7 +11,7 @@ use Rattle.lxtr_spec.specs.Image.{magic}
 use Rattle.lxtr_spec.specs.Refusals.{byteDiffers, magicDiffers, reservedSet}
 use Rattle.lxtr_laws.specs.RangeTests.{tests}
 
--- two faults that are absent together are one
+-- two tests that are false together are equal
 same-fault : (s t : Bool) → (s ≡ false → t ≡ false) → (t ≡ false → s ≡ false) → s ≡ t
 same-fault true true f g = refl
 same-fault true false f g = g refl

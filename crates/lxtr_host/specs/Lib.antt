@@ -1,3 +1,3 @@
--- Laws of the numbers and of the words that a host program is answered.
+-- Laws of the numbers and words that a host program gets as answers.
 pub mod Numbering
 pub mod PlaceWords

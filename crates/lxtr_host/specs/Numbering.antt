@@ -1,4 +1,4 @@
--- The number of an answer as the code makes it: a mark adds its outcome times what it stands for, and each case has its number.
+-- The number of an answer as the code makes it: each mark adds what it stands for if it is set, and each case has its number.
 use Prim.Native.Nat.{ℕ, _+_, _*_}
 use mathlib.Core.Path.{_≡_, refl}
 use mathlib.Core.Bool.{Bool, true, false}
@@ -16,7 +16,7 @@ number-added k n true false = refl
 number-added k n false true = refl
 number-added k n false false = refl
 
--- of a value or none
+-- the number for a value or for none
 module _ (k : ℕ) (more : Bool) (f : Found) (n : ℕ) where
   pub value-number : (v : ℕ) → f ≡ Is v → n ≡ hostNumber k more true v → n ≡ valueNumbered k more (found f)
   unfolding valueNumbered
@@ -26,6 +26,6 @@ module _ (k : ℕ) (more : Bool) (f : Found) (n : ℕ) where
   unfolding valueNumbered
   none-number h e = rw h e
 
--- of a fault, by its case
+-- the number for a fault, by its case
 pub fault-case : (f g : Fault) (n : ℕ) → f ≡ g → n ≡ faultNumbered g → n ≡ faultNumbered f
 fault-case f g n e h = rw e h

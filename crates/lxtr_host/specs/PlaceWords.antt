@@ -1,4 +1,4 @@
--- Lengths and values as words: place j is words 2 * j and 2 * j + 1, its length and its value.
+-- Lengths and values as words: words 2 * j and 2 * j + 1 are the length and the value of place j.
 -- Written one after the other, the first i words are at the front of the places.
 use Prim.Native.Nat.{ℕ, zero, suc, _+_, _*_, _/_, _≤_, _<_, min}
 use native.Mathlib.Nat.{add-zero, zero-add}
@@ -22,7 +22,7 @@ module _ (xs ys : List ℕ) where
   unfolding alternately
   alternately-length = words-length lengthCount 0
 
-  -- the two words of place j, of n places from place k on
+  -- the two words of place k + j, where the n places start at place k
   word-of : (n k j t : ℕ) → j < n → t < 2 → getD (concatFrom n k (placeWords xs ys)) (2 * j + t) 0 ≡ getD (placeWords xs ys (k + j)) t 0
   unfolding concatFrom placeWords
   word-of zero k j t h l = absurd (omega arith)
@@ -47,7 +47,7 @@ module _ (xs ys : List ℕ) where
     unfolding placeWords
     value-word = word-is 1 (omega arith)
 
--- of lengths xs and values ys the first i words are in the places, which were places₀ before
+-- the first i words of the lengths xs and values ys are at the front of the places, which were places₀ before
 pub record WordsIn (xs ys places₀ places : List ℕ) (i : ℕ) : Type 0 where
   pub same-length : length places ≡ length places₀
   pub within : i ≤ min (2 * lengthCount) (length places₀)
@@ -56,7 +56,7 @@ pub record WordsIn (xs ys places₀ places : List ℕ) (i : ℕ) : Type 0 where
 pub words-start : (xs ys places : List ℕ) → WordsIn xs ys places places 0
 words-start xs ys places = record { same-length = refl; within = omega arith; are = refl }
 
--- word i laid over what stands there
+-- word i is laid over what is there
 next-word : (ws places : List ℕ) (i : ℕ) → i < length ws → i < length places
     → set (take i ws ++ drop i places) i (getD ws i 0) ≡ take (suc i) ws ++ drop (suc i) places
 next-word ws places i h l =
@@ -64,7 +64,7 @@ next-word ws places i h l =
     (set-at (take i ws) (getD places i 0) (drop (suc i) places) (getD ws i 0) i (length-take-le i ws (omega arith))
     ∙ sym (append-snoc (take i ws) (getD ws i 0) (drop (suc i) places)))
 
--- all words, or as many as there are places
+-- all words, or as many as there is room for
 all-words : (ws places : List ℕ) (i : ℕ) → i ≡ min (length ws) (length places) → take i ws ++ drop i places ≡ take (length places) ws ++ drop (length ws) places
 all-words [] places i e = let z : i ≡ 0 = omega arith in rw (z, take-nil)
 all-words (w ∷ ws) [] i e = let z : i ≡ 0 = omega arith in rw z
@@ -83,7 +83,7 @@ module _ (xs ys places₀ places : List ℕ) (i : ℕ) (g : WordsIn xs ys places
   unfolding atFront
   words-end h = g .are ∙ all-words (alternately xs ys) places₀ i (omega (arith, g .within, alternately-length xs ys))
 
--- of a turn of the loop over pairs, and of its end, with or without one length more
+-- a turn of the loop over pairs, and the end of that loop, with or without one more length
 module _ (xs ys places₀ places : List ℕ) (i count pairs : ℕ) (all : count ≡ min (2 * lengthCount) (length places₀)) (half : pairs ≡ count / 2) (g : WordsIn xs ys places₀ places (2 * i)) where
   length-next : 2 * i < count → WordsIn xs ys places₀ (set places (2 * i) (getD xs i 0)) (2 * i + 1)
   length-next h = words-next xs ys places₀ places (2 * i) g count all (getD xs i 0) (length-word xs ys i (omega arith)) h

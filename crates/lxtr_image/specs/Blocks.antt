@@ -1,5 +1,5 @@
--- A block of places of the code map, searched by one sum. A place that has the label adds 2^16 and the place in the block, counted
--- from 1, so the sum tells whether there is no match or one, and then which.
+-- A block of places of the code map, searched by one sum. A place that has the label adds 2^16 plus its place in the block, counted
+-- from 1. So the sum tells whether there is no match, one, or more; and for one, at which place.
 use Prim.Native.Nat.{ℕ, zero, suc, _+_, _*_, _-_, _%_, _^_, _≤_, _<_}
 use mathlib.Core.Path.{_≡_, refl, sym, _∙_}
 use mathlib.Core.Bool.{Bool, true, false, cond}
@@ -32,7 +32,7 @@ pub weight-none : (t : Bool) (k : ℕ) → t ≡ false → 0 ≡ weight t k
 unfolding weight
 weight-none t k e = rw e
 
--- the sum of the first k places from i on, for label x
+-- the sum of the k places that start at place i, for label x
 unfoldable pub blockSum : List ℕ → ℕ → ℕ → ℕ → ℕ
 blockSum b x i zero = 0
 blockSum b x i (suc k) = blockSum b x i k + weight (eqb (labelAt b (i + k)) x) k
@@ -43,7 +43,7 @@ module _ (b : List ℕ) (x i : ℕ) where
   unfolding blockSum
   sum-with k t e = rw e
 
-  -- the search of one place more: its match, or the places behind it
+  -- the search of one more place: its match, or the places after it
   code-with : (k m : ℕ) → eqb (labelAt b (i + k)) x ≡ true → codeFrom b x (suc m) (i + k) ≡ some (i + k + 1)
   unfolding codeFrom
   code-with k m e = rw (codeFrom, e)
@@ -61,7 +61,7 @@ module _ (b : List ℕ) (x i : ℕ) where
       go true e ih = rw (sum-with k true e) (omega arith)
       go false e ih = rw (sum-with k false e) (omega arith)
 
-  -- less than one match is none
+  -- a sum of at most oneMatch is 0, since a single match adds more
   sum-small : (k : ℕ) → blockSum b x i k ≤ oneMatch → blockSum b x i k ≡ 0
   unfolding blockSum weight
   sum-small zero h = refl
@@ -71,7 +71,7 @@ module _ (b : List ℕ) (x i : ℕ) where
       go true e ih = let s = rw (sum-with k true e) at h in absurd (omega arith)
       go false e ih = let s = rw (sum-with k false e) at h in rw (sum-with k false e) (omega (arith, ih (omega arith)))
 
-  -- no match: the search goes on behind the block
+  -- no match: the search continues after the block
   block-none : (k m : ℕ) → blockSum b x i k ≡ 0 → codeFrom b x (k + m) i ≡ codeFrom b x m (i + k)
   unfolding blockSum weight
   block-none zero m h = rw (zero-add, add-zero)
@@ -85,7 +85,7 @@ module _ (b : List ℕ) (x i : ℕ) where
           let j : i + suc k ≡ i + k + 1 = omega arith in
           rw (n, j) (ih (omega arith) ∙ code-without k m e)
 
-  -- one match: the sum has its place
+  -- one match: the sum gives its place
   block-one : (k m : ℕ) → k ≤ blockSize → blockSum b x i k < 2 * oneMatch → (blockSum b x i k ≡ 0 → ⊥) → codeFrom b x (k + m) i ≡ some (i + blockSum b x i k % oneMatch)
   unfolding blockSum weight
   block-one zero m l h d = absurd (d refl)
@@ -104,7 +104,7 @@ module _ (b : List ℕ) (x i : ℕ) where
           let z : blockSum b x i k + 0 ≡ blockSum b x i k = omega arith in
           rw (n, sum-with k false e, z) (ih (omega arith) (λ q. d (rw (sum-with k false e, z, q))))
 
--- a loop that makes the sum: so far it has come to place k of the block
+-- a loop that computes the sum: k places of the block are added
 pub record SumSoFar (b : List ℕ) (x i k s : ℕ) : Type 0 where
   pub to : k ≤ blockSize
   pub sum : s ≡ blockSum b x i k
@@ -127,7 +127,7 @@ module _ (b : List ℕ) (x i : ℕ) where
     pub sum-end : blockSize ≤ k → s ≡ blockSum b x i blockSize
     sum-end h = let e : k ≡ blockSize = omega (arith, so-far .to) in rw e at (so-far .sum)
 
--- the search for a code at the n places of the map: o is what it gives from place i on, and s the sum of the block there
+-- the search for a code in the n places of the map: o is what it gives starting at place i, and s is the sum of the block there
 module _ (b : List ℕ) (x n i s : ℕ) (o : Option ℕ) (known : o ≡ codeFrom b x (n - i) i) (inside : i + blockSize ≤ n) (sum : s ≡ blockSum b x i blockSize) where
   split : n - i ≡ blockSize + (n - (i + blockSize))
   split = omega (arith, inside)

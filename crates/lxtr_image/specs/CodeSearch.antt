@@ -1,4 +1,4 @@
--- The search for a label's code, as a loop makes it: the code of the label is what the search of the n - i places from i on gives.
+-- The search for a label's code as a loop: the code of the label is what the search of the n - i places from i up gives.
 -- Each turn reads the label l at place i.
 use Prim.Native.Nat.{ℕ, _+_, _*_, _-_, _≤_, _<_}
 use mathlib.Core.Path.{_≡_, sym, _∙_}
@@ -16,7 +16,7 @@ use Rattle.lxtr_spec.specs.Image.{mapLength, mapAt, labelCount, labelAt, codeFr
 no-more : (n i : ℕ) → n ≤ i → n - i ≡ 0
 no-more n i h = omega arith
 
--- a label read from the map's place in an image of known length, which the map ends
+-- a label read from the end of the image: the map is its last part, so the image's length tells where the map starts
 pub label-from-end : (b : List ℕ) (i m r : ℕ) → Passed b → m ≡ mapLength b → r ≡ be32 b (length b - m + 5 + 4 * i) → r ≡ labelAt b i
 unfolding labelAt
 label-from-end b i m r ok e h =
@@ -27,7 +27,7 @@ module _ (b : List ℕ) (x n : ℕ) where
   pub code-start : (i : ℕ) → n ≡ labelCount b → codeFrom b x (labelCount b - i) i ≡ codeFrom b x (n - i) i
   code-start i e = rw e
 
-  -- from the first place on it is the search of all
+  -- starting at the first place, it is the search of all places
   pub code-all : n ≡ labelCount b → codeOf b x ≡ codeFrom b x (n - 0) 0
   unfolding codeOf
   code-all e = rw (sub-zero, e)
@@ -41,7 +41,7 @@ module _ (b : List ℕ) (x n : ℕ) where
     unfolding codeFrom
     code-miss l h e m = rw (known, more n i h, codeFrom, ne-eqb (labelAt b i) x (λ q. m (e ∙ q)))
 
-    -- the search goes on elsewhere, and r is what it gives
+    -- the rest is searched elsewhere, and r is what that search gives
     pub code-rest : (r : Option ℕ) → n ≡ labelCount b → r ≡ codeFrom b x (labelCount b - i) i → r ≡ o
     code-rest r e h = rw (h, known, e)
 

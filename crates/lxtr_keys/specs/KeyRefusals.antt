@@ -22,7 +22,7 @@ use Rattle.lxtr_build_laws.specs.KeyListFacts.{WholeKey}
 use Rattle.lxtr_build_laws.specs.KeyReading.{key-ends, key-goes}
 use Rattle.lxtr_build_laws.specs.Passing.{KeyPassed, key-passed}
 
--- from key 1 on, the key before key i lies whole in the list
+-- the key before key i, if i is not 0, lies wholly in the list
 pub record WholeBefore (b : List ℕ) (i before : ℕ) : Type 0 where
   pub since : i ≢ 0 → WholeKey b before
 
@@ -37,7 +37,7 @@ module _ (b : List ℕ) (before at m n : ℕ) where
   compare-start = record { to = omega arith; rest = refl }
 
   module _ (j : ℕ) (so-far : Comparing b before at m j) (size-before : m ≡ keyLength b before) (size-at : n ≡ keyLength b at) where
-    -- all labels of the first key: it is a prefix of the other, and comes before it if that is longer
+    -- the first key has no more labels: it is a prefix of the other, and comes before it if that one is longer
     pub compare-end : m ≤ j → ltb m n ≡ comesBefore (keyAt b before) (keyAt b at)
     unfolding comesBefore
     compare-end h = sym (so-far .rest ∙ rw (key-ends b before j (omega arith)) (longer (decLt m n)))
@@ -113,7 +113,7 @@ module _ (b : List ℕ) (i before at : ℕ) where
             pub key-right : t ≡ false → 0 ≡ keyRefusal b i before at
             key-right e = after-bytes 0 (goes-on _ _ _ _ all (goes-on _ _ _ _ (outcome t _ _ order e) refl))
 
--- ---- all keys: after i of them nothing is refused, and the rest decides
+-- ---- all keys: none of the first i is refused, and the rest decides
 
 pub record RestDecides (b : List ℕ) (n i before at : ℕ) : Type 0 where
   pub to : i ≤ n

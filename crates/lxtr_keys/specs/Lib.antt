@@ -1,2 +1,2 @@
--- What the code computes, turn by turn and test by test. Of these a reader of its contracts meets WholeBefore.
+-- What the code computes, turn by turn and test by test. A reader of its contracts meets only WholeBefore.
 pub mod KeyRefusals

@@ -1,4 +1,4 @@
--- The labels of a key, put one behind the other; and the lines that end with them.
+-- The labels of a key, appended one after the other; and the lines that end with them.
 use Prim.Native.Nat.{ℕ, suc, _+_, _≤_, _<_}
 use native.Mathlib.Omega.{arith}
 use native.Mathlib.Numerals.{add-one}
@@ -12,7 +12,7 @@ use Rattle.lxtr_spec.specs.Lines.{space, lineEnd, decimal, hexadecimal, labelsT
 use Rattle.lxtr_command_spec.specs.Forms.{shown, shownAll, spaced, tab, keyText, completionLine, prefixLine}
 use Rattle.lxtr_text.specs.Appends.{Appended, Begun, append-more, append-none, begin, begun-next, begun-end}
 
--- a text that is made of the pieces of a list, one for each number
+-- a text made of pieces, one for each number of a list
 pub record Pieces (piece : ℕ → List ℕ) (text : List ℕ → List ℕ) : Type 0 where
   pub none : text [] ≡ []
   pub more : (x : ℕ) (xs : List ℕ) → text (x ∷ xs) ≡ piece x ++ text xs
@@ -51,13 +51,13 @@ module _ {piece : ℕ → List ℕ} {text : List ℕ → List ℕ} (made : Piece
   pub pieces-all : count ≤ i → Appended line at (text xs) line′ end
   pieces-all h = pieces-end made line at xs 0 place i line′ end s count is h
 
--- ---- two parts and more, one behind the other
+-- ---- two or more parts, one after the other
 
 module _ (line : List ℕ) (at : ℕ) (place : at ≤ length line) where
   pub label-put : (x : ℕ) (l₁ : List ℕ) (m₁ : ℕ) → Appended line at (space ∷ []) l₁ m₁ → (l₂ : List ℕ) (r : ℕ) → Appended l₁ m₁ (hexadecimal x) l₂ r → Appended line at (space ∷ hexadecimal x) l₂ r
   label-put x l₁ m₁ p₁ l₂ r p₂ = append-more p₁ place p₂
 
-  -- xs are the labels, of which there are so many
+  -- xs are the labels, and count is their number
   module _ (xs : List ℕ) (count : ℕ) (is : count ≡ length xs) where
     pub no-labels : count ≡ 0 → Appended line at (spaced xs) line at
     unfolding spaced
@@ -99,7 +99,7 @@ module _ (line : List ℕ) where
   unfolding completionLine
   completion-line v xs p e f l r q = rw (sym e, sym f) q
 
--- a number, a tab and what is behind them: from any place on, and from the line's front
+-- a number, a tab and what follows them: at any place, and at the front of the line
 module _ (line : List ℕ) (at : ℕ) (place : at ≤ length line) (v : ℕ) (l₁ : List ℕ) (m₁ : ℕ) (p₁ : Appended line at (decimal v) l₁ m₁)
     (l₂ : List ℕ) (m₂ : ℕ) (p₂ : Appended l₁ m₁ (tab ∷ []) l₂ m₂) (xs l₃ : List ℕ) (r : ℕ) where
   pub completion-put : Appended l₂ m₂ (keyText xs) l₃ r → Appended line at (completionLine (xs, v)) l₃ r

@@ -1,5 +1,5 @@
--- Lines of the programs, piece after piece. A reader of contracts meets the definitions that open Records. LineRooms says that the lines
--- are not cut.
+-- Lines of the programs, piece by piece. A reader of contracts meets the definitions that open Records. LineRooms says that the
+-- lines are not cut.
 pub mod KeyLines
 pub mod Records
 pub mod LineRooms

@@ -1,4 +1,4 @@
--- The lines go whole into a line of LINE_ROOM bytes: how long each may be.
+-- The lines fit wholly into a line of LINE_ROOM bytes: how long each may be.
 use Prim.Native.Nat.{ℕ, _+_, _*_, _≤_}
 use native.Mathlib.Omega.{arith}
 use mathlib.Core.Path.{_≡_}

@@ -16,14 +16,14 @@ use Rattle.lxtr_laws.specs.QueryLabels.{label-count, label-read}
 use Rattle.lxtr_build_laws.specs.KeyListFacts.{WholeKey}
 use Rattle.lxtr_build_laws.specs.KeyReading.{key-size, key-at}
 
--- the pair of the record at a place, and the place behind it
+-- the pair of the record at a place, and the place after it
 unfoldable pub recordPair : List ℕ → ℕ → Pair
 recordPair b at = (keyAt b at, be32 b (nextKey b at))
 
 unfoldable pub recordEnd : List ℕ → ℕ → ℕ
 recordEnd b at = nextKey b at + 4
 
--- the record lies whole in the listing, and its key has no more labels than a key may have: as a test, and as facts
+-- the record lies wholly in the listing, and its key has no more labels than a key may have: as a test, and as facts
 unfoldable pub isWholeRecord : List ℕ → ℕ → Bool
 isWholeRecord b at = ltb at (length b) && (leb (keyLength b at) maxLabels && leb (recordEnd b at) (length b))
 

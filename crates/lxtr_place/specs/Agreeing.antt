@@ -1,4 +1,4 @@
--- Placing asks for no codes and labels but those of the group: two ways to look them up that agree there place alike.
+-- Placing looks up only the codes and labels of the group: two ways of looking them up that agree on these place the same.
 use Prim.Native.Nat.{ℕ, zero, suc}
 use mathlib.Core.Path.{_≡_, refl, sym, ap, _∙_}
 use mathlib.Core.List.{List, [], _∷_, List·Memᴰ}
@@ -24,7 +24,7 @@ each-same f f′ (suc c ∷ cs) w h = go (λ u. each-same f f′ cs u (λ e m. h
     go ih (some u) o′ e = ih u ∙ ap (λ (x : Option (List ℕ)). elim x as (λ _. Option (List ℕ)) [ none ↦ none | some v ↦ intoEach f′ cs v ]) e
 
 module _ (S : ℕ) (code code′ label label′ : ℕ → ℕ) where
-  -- the two agree on the labels of a group
+  -- the two ways agree on the labels of a group
   pub record Agree (g : List Pair) : Type 0 where
     pub codes : (p : Pair) → List·Memᴰ p g → (x : ℕ) → List·Memᴰ x (p .0) → code x ≡ code′ x
     pub labels : (p : Pair) → List·Memᴰ p g → (x : ℕ) → List·Memᴰ x (p .0) → label (code x) ≡ label′ (code x)

@@ -1,4 +1,4 @@
--- All keys pass slot 1: their group may be placed in cleared work, and placing it is what the definitions say of the key list.
+-- All keys are below slot 1: their group may be placed in cleared work, and placing it is what the definitions say of the key list.
 use Prim.Native.Nat.{ℕ, zero, suc, _+_, _*_, _-_, _^_, _≤_, _<_}
 use mathlib.Core.Path.{_≡_, refl, sym, ap, _∙_, subst}
 use mathlib.Core.List.{List, _∷_}
@@ -51,7 +51,7 @@ module _ (b : List ℕ) (n : ℕ) (e : n ≡ keyCount b) where
     codes-in = rw all-pairs (codes-in (pairsOf b) labels codes order t);
   }
 
--- ---- where they start: of the first i keys it is in the table
+-- ---- where the keys start: the table has this for the first i keys
 
 pub record StartsPut (b starts : List ℕ) (i : ℕ) : Type 0 where
   pub each : (j : ℕ) → j < i → getD starts j 0 ≡ placeOf b j keysAt
@@ -112,11 +112,11 @@ module _ (b starts₀ : List ℕ) (k : KeysPassed b) where
 pub starts-enough : (b starts : List ℕ) → KeysPassed b → length starts ≡ maxKeys + 1 → keyCount b < length starts
 starts-enough b starts k l = omega (arith, k .few)
 
--- what is lent has a start for each of them
+-- the lent table has the start of each key, and the lent room is long enough
 all-lent : (b starts room : List ℕ) (n : ℕ) → KeysPassed b → n ≡ keyCount b → StartsPut b starts (keyCount b + 1) → length starts ≡ maxKeys + 1 → length room ≡ maxKeys + lengthCount → Lent b starts (all n) lengthCount room
 all-lent b starts room n k e s l m = record { indexed = record { inside = omega (arith, k .few); each = λ i h. ap (λ (m : ℕ). getD starts m 0) (zero-add i) ∙ s .each i (omega arith) }; long = omega (arith, k .few) }
 
--- slot 1 of cleared work may be gone into
+-- slot 1 of cleared work is fresh
 module _ (w : List ℕ) (clear : Cleared w) where
   check-zero : (t : ℕ) → checkAt w t ≡ 0
   check-zero t = rw (clear .zeros) (zeros-check (length w) t)
@@ -135,12 +135,12 @@ module _ (w : List ℕ) (clear : Cleared w) where
     parent-taken = λ t h f. omega (arith, check-zero t, f .from);
   }
 
--- so `place` may be called with all of them
+-- so `place` may be called with all keys
 pub all-called : (b starts labels codes order room w : List ℕ) (S n : ℕ) → KeysPassed b → CodeTables (pairsOf b) labels codes order → Cleared w → n ≡ keyCount b → S ≡ slotsIn (length w) → StartsPut b starts (keyCount b + 1) → length starts ≡ maxKeys + 1 → length room ≡ maxKeys + lengthCount
     → Called b starts labels codes order S lengthCount 1 (all n) w room
 all-called b starts labels codes order room w S n k t clear e slots s l m = record { tables = t; placeable = all-placeable b n e labels codes order k t; fresh = root-fresh w clear S slots; deep = omega arith; lent = all-lent b starts room n k e s l m }
 
--- what is placed is what the definitions say
+-- what is placed is what the definitions place
 module _ (b labels codes order w : List ℕ) (t : CodeTables (pairsOf b) labels codes order) (clear : Cleared w) where
   agree : Agree (slotsIn (length w)) (codeBy labels codes) (codeIn (mapOf (pairsOf b))) (labelBy labels order) (labelWith (mapOf (pairsOf b))) (pairsOf b)
   unfolding CodesIn

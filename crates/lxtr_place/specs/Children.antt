@@ -1,4 +1,4 @@
--- While a slot's children are gone into one after the other, the next one is fresh.
+-- While placing goes into a slot's children, one after the other, the next child is fresh.
 use Prim.Native.Nat.{ℕ, _<_}
 use mathlib.Core.Path.{_≡_, sym, _∙_, subst}
 use mathlib.Core.List.{List, List·Memᴰ}
@@ -14,13 +14,13 @@ use Rattle.lxtr_build_laws.specs.PlacingSteps.{Step, Ready}
 use Rattle.lxtr_build_laws.specs.FirstFit.{slot-injective}
 use Rattle.lxtr_build_laws.specs.SettledSlots.{Among, Settled, settle-free, settle-only, settle-step, settle-parent, settle-ready}
 
--- slot p may be gone into: it is taken and has no child yet, and no taken slot has a free parent
+-- slot p is fresh, so placing may go into it: it is taken and has no child yet, and no taken slot has a free parent
 pub record Fresh (S : ℕ) (w : List ℕ) (p : ℕ) : Type 0 where
   pub ready : Ready S w p
   pub no-child : (t : ℕ) → parentAt w t ≢ p
   pub parent-taken : (t : ℕ) → Taken w t → Taken w (parentAt w t)
 
--- the slots of the first j codes, which have been gone into
+-- t is the slot of one of the first j codes; placing has gone into these slots
 abbrev pub Done : ℕ → List ℕ → ℕ → ℕ → Type 0
 Done b cs j t = (i : ℕ) × (i < j) × (t ≡ slotUnder b (getD cs i 0))
 
@@ -40,7 +40,7 @@ module _ (S p v : ℕ) (cs w : List ℕ) (b : ℕ) (u : List ℕ) (fresh : Fresh
   held : (c : ℕ) → List·Memᴰ c cs → Taken u (slotUnder b c)
   held c m = settle-ready S p v cs w b u (fresh .ready) settled rising c m .taken
 
-  -- p is no child of its own
+  -- p is not a child of itself
   apart : (c : ℕ) → List·Memᴰ c cs → slotUnder b c ≢ p
   apart c m e = fresh .ready .taken (subst (λ (x : ℕ). Free w x) e (free c m .0))
 
@@ -56,7 +56,7 @@ module _ (S p v : ℕ) (cs w : List ℕ) (b : ℕ) (u : List ℕ) (fresh : Fresh
         old (inl f) = done .newly-taken t f h .parent-taken
         old (inr a) = subst (λ (y : ℕ). Taken x y) (sym (done .parent t a)) (done .stays (parentAt u t) (base t a))
 
-    -- the next child may be gone into
+    -- the next child is fresh
     module _ (h : j < length cs) where
       abbrev c : ℕ
       c = getD cs j 0

@@ -1,4 +1,4 @@
--- The loops over the keys of a group. What is left of the group makes the whole.
+-- The loops over the keys of a group. What is left of the group completes the whole.
 use Prim.Native.Nat.{ℕ, zero, suc, _+_, _*_, _-_, _/_, _^_, _≤_, _<_}
 use mathlib.Core.Path.{_≡_, refl, sym, ap, ap₂, _∙_, subst}
 use mathlib.Core.Logic.{_≢_, _⊎_, ⊎-elim, inl, inr}
@@ -49,7 +49,7 @@ keys-count b d (suc n) i at = ap suc (keys-count b d n (i + 1) (nextKey b at))
 pub group-size : (b : List ℕ) (g : Group) → g .count ≡ length (groupOf b g)
 group-size b g = keys-count b (g .depth) (g .count) (g .first) (g .at)
 
--- ---- what a loop has left of a group after i keys, where the next one starts at a place
+-- ---- what a loop has left of a group after i keys, where the next key starts at place `at`
 
 abbrev pub left : List ℕ → Group → ℕ → ℕ → List Pair
 left b g at i = groupFrom b (g .depth) (g .count - i) (g .first + i) at
@@ -109,7 +109,7 @@ member b d (suc n) f at (suc i) h =
     let e : f + 1 + i ≡ f + suc i = omega arith in
     List·Memᴰ·tail (subst (λ (m : ℕ). List·Memᴰ (drop d (keyAt b (placeOf b i (nextKey b at))), m) (groupFrom b d n (f + 1) (nextKey b at))) e (member b d n (f + 1) (nextKey b at) i (omega arith)))
 
--- the keys from the i-th on
+-- the keys from the i-th up
 abbrev onward : List ℕ → ℕ → ℕ → ℕ → ℕ → ℕ → List Pair
 onward b d n f at i = groupFrom b d (n - i) (f + i) (placeOf b i at)
 
@@ -136,7 +136,7 @@ ascending-onward b d n f at zero h a = rw (onward-start b d n f at) a
 ascending-onward b d zero f at (suc i) h a = absurd (omega arith)
 ascending-onward b d (suc n) f at (suc i) h a = subst Ascending (onward-suc b d n f at i) (ascending-onward b d n (f + 1) (nextKey b at) i (omega arith) (a .1))
 
--- a key under x has none that goes on by x before it
+-- no key before one that is under x continues with x
 below-onward : (b : List ℕ) (d n f at x i : ℕ) → i < n → Ascending (groupFrom b d n f at) → isUnder x (drop d (keyAt b (placeOf b i at))) ≡ true → below x (groupFrom b d n f at) ≡ below x (onward b d n f at (suc i))
 unfolding groupFrom Ascending placeOf
 below-onward b d zero f at x i h a u = absurd (omega arith)
@@ -165,7 +165,7 @@ module _ (b : List ℕ) (at d x len : ℕ) (e : len ≡ keyLength b at) where
 abbrev from : Group → ℕ → ℕ → Group
 from g at i = record { at = at; first = g .first + i; count = g .count - i; depth = g .depth }
 
--- no key before the low-th goes on by x, and those from the high-th on are not under it
+-- no key before the low-th continues with x, and the high-th key, if there is one, is not under x
 pub record Searching (b : List ℕ) (g : Group) (x low high : ℕ) : Type 0 where
   pub between : low ≤ high
   pub to : high ≤ g .count
@@ -191,7 +191,7 @@ module _ (b : List ℕ) (g : Group) (x : ℕ) (w : Grouped b g) where
   search-start = record { between = omega arith; to = omega arith; passed = sym (ap (below x) (onward-start b (g .depth) (g .count) (g .first) (g .at))); reached = inl refl }
 
   module _ (low high : ℕ) (r : Searching b g x low high) where
-    -- the key in the middle of those that are left, which starts at a
+    -- the key in the middle of those that are left, which starts at place a
     module _ (h : low < high) where
       abbrev mid : ℕ
       mid = low + (high - low) / 2
@@ -218,7 +218,7 @@ module _ (b : List ℕ) (g : Group) (x : ℕ) (w : Grouped b g) where
           pub search-high : t ≡ false → Searching b g x low mid
           search-high u = record { between = omega arith; to = omega (arith, r .to); passed = r .passed; reached = inr (sym here ∙ u) }
 
-    -- none is left: the group from the low-th key on, which starts at a
+    -- no key is left: the answer is the group from the low-th key up, which starts at place a
     module _ (stop : high ≤ low) where
       pub inside : low ≤ g .count
       inside = omega (arith, r .between, r .to)
@@ -266,7 +266,7 @@ tails-front b d zero n f at h = refl
 tails-front b d (suc k) zero f at h = absurd (omega arith)
 tails-front b d (suc k) (suc n) f at h = ap₂ {C = List Pair} (λ (l : List ℕ) (g : List Pair). (l, f) ∷ g) (sym (drop-drop 1 d (keyAt b at))) (tails-front b d k n (f + 1) (nextKey b at) (omega arith))
 
--- h is g from a key on, behind those under x, and k of its first keys go on by x
+-- h is g without the keys under x at its front, and k is how many of its first keys continue with x
 module _ (b : List ℕ) (x : ℕ) (g h : Group) (k : ℕ) (few : k ≤ h .count) (deep : h .depth ≡ g .depth) where
   pub below-group : Grouped b h → g .depth < lengthCount → Grouped b (record { at = h .at; first = h .first; count = k; depth = h .depth + 1 })
   below-group w l = record { whole = whole-front b k (h .count) (h .at) few (w .whole); values = omega (arith, w .values); shallow = omega arith }
@@ -280,7 +280,7 @@ module _ (b : List ℕ) (x : ℕ) (g h : Group) (k : ℕ) (few : k ≤ h .count)
       ∙ ap (λ (m : ℕ). tails (take m (groupOf b h))) r
       ∙ sym s
 
--- a child's group may be placed where its parent's may
+-- a child's group may be placed if its parent's may
 pub child-placeable : (b labels codes : List ℕ) (g h : Group) (x : ℕ) → Placeable b labels codes g → Grouped b h → groupOf b h ≡ below x (groupOf b g) → Placeable b labels codes h
 child-placeable b labels codes g h x r w e = record {
   grouped = w;

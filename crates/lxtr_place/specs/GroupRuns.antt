@@ -1,4 +1,4 @@
--- In an ascending group the keys that go on by a label stand together, and only the first key may be used up.
+-- In an ascending group the keys that continue with the same label are together, and only the first key may be used up.
 use Prim.Native.Nat.{ℕ, suc, _<_}
 use mathlib.Core.Path.{_≡_, refl, sym, ap, _∙_}
 use mathlib.Core.List.{List, [], _∷_, List·Memᴰ}
@@ -16,7 +16,7 @@ use Rattle.lxtr_laws.specs.KeyOrder.{first-or-rest}
 use Rattle.lxtr_build_laws.specs.KeyListFacts.{Ascending}
 use Rattle.lxtr_place.specs.GroupRanges.{goesBy, isUnder, runOf}
 
--- what is left behind one more label
+-- what is left of the keys after one more label
 unfoldable pub tails : List Pair → List Pair
 tails [] = []
 tails (p ∷ g) = (drop 1 (p .0), p .1) ∷ tails g
@@ -51,9 +51,9 @@ module _ (x : ℕ) (p : Pair) (g : List Pair) where
   unfolding runOf
   run-past h = ap (λ (t : Bool). elim t as (λ _. ℕ) [ true ↦ suc (runOf x g) | false ↦ 0 ]) h
 
--- ---- behind the run
+-- ---- after the run
 
--- it begins with a label above x
+-- a list that begins with a label above x
 unfoldable Past : ℕ → List ℕ → Type 0
 Past x [] = ⊥
 Past x (y ∷ r) = x < y
@@ -63,7 +63,7 @@ unfolding Past goesBy
 not-by x [] h = absurd h
 not-by x (y ∷ r) h = ne-eqb y x (λ e. omega arith)
 
--- what comes after something past x is past x; and so is what comes after x r and does not begin with x
+-- what comes after something past x is past x too; and so is what comes after x ∷ r and does not begin with x
 past-after : (x : ℕ) (k l : List ℕ) → Past x l → comesBefore l k ≡ true → Past x k
 unfolding Past comesBefore
 past-after x k [] h a = absurd h
@@ -105,7 +105,7 @@ unfolding isUnder goesBy
 under-past x [] u = refl
 under-past x (y ∷ r) u = ne-eqb y x (λ e. omega (arith, ltb-is-true y x .0 u))
 
--- what comes before something under x does not go on by x
+-- what comes before something under x does not continue with x
 pub under-before : (x : ℕ) (k l : List ℕ) → isUnder x l ≡ true → comesBefore k l ≡ true → goesBy x k ≡ false
 unfolding isUnder goesBy comesBefore
 under-before x [] l u a = refl
@@ -117,7 +117,7 @@ unfolding isUnder goesBy Past
 not-under x [] u n = absurd (false≢true (sym u))
 not-under x (y ∷ r) u n = let l = ltb-is-false y x .0 u in let o = eqb-false y x n in omega arith
 
--- where the first key is not under x, the run is all of it
+-- if the first key is not under x, the run has all keys that continue with x
 pub front-below : (x : ℕ) (p : Pair) (g : List Pair) → Ascending (p ∷ g) → isUnder x (p .0) ≡ false → below x (p ∷ g) ≡ tails (take (runOf x (p ∷ g)) (p ∷ g))
 unfolding Ascending tails
 front-below x p g a u = go (goesBy x (p .0)) refl

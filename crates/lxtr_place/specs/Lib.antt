@@ -1,4 +1,4 @@
--- What the placing's code computes, turn by turn. The public contracts use none of it; those of private functions use GroupRanges
+-- What the code of placing computes, turn by turn. The public contracts use none of it; those of private functions use GroupRanges
 -- and the definitions that open SettlingWords, GatheredCodes, Children and Within.
 pub mod SettlingWords
 pub mod GroupRanges

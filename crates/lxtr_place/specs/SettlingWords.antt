@@ -1,4 +1,4 @@
--- The words that settling a slot puts.
+-- The words that are stored when a slot is settled.
 use Prim.Native.Nat.{ℕ, zero, suc, _+_, _*_, _^_, _%_, _≤_, _<_}
 use mathlib.Core.Path.{_≡_, refl, sym, ap, _∙_}
 use mathlib.Core.Logic.{_≢_}
@@ -18,11 +18,11 @@ use Rattle.lxtr_build_laws.specs.SlotWords.{check-of-base}
 use Rattle.lxtr_build_laws.specs.FirstFit.{first-fit-some, fits-free}
 use Rattle.lxtr_build_laws.specs.SettledSlots.{put-child-size}
 
--- the words of each child's slot under the base lie in a work of so many words
+-- the words of each child's slot under the base lie in a work of this many words
 pub record ChildrenInside (words b : ℕ) (cs : List ℕ) : Type 0 where
   pub each : (j : ℕ) → j < length cs → 2 * slotUnder b (getD cs j 0) + 1 < words
 
--- the base that the code answers, and the work then
+-- the base that the code answers, and the work after that
 unfoldable pub settledAs : Found → List ℕ → Option (ℕ × List ℕ)
 settledAs (Is b) w = some (b, w)
 settledAs Nothing w = none
@@ -61,7 +61,7 @@ module _ (p v b : ℕ) (w : List ℕ) (t : ℕ) where
   end-put zero e z = rw e refl
   end-put (suc c) e z = absurd (omega arith)
 
--- ---- all children's words: the first j are put
+-- ---- all children's words: those of the first j are stored
 
 pub record PutSoFar (p v b : ℕ) (cs w₀ w : List ℕ) (j : ℕ) : Type 0 where
   pub to : j ≤ length cs

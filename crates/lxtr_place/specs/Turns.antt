@@ -1,4 +1,4 @@
--- The loop of `place` over the codes of a slot's children: what it keeps, and its turns.
+-- The loop of `place` over the codes of a slot's children: its invariant, and its turns.
 use Prim.Native.Nat.{ℕ, zero, suc, _+_, _-_, _≤_, _<_}
 use mathlib.Core.Path.{_≡_, refl, sym, ap, ap₂, _∙_}
 use mathlib.Core.Logic.{_≢_, inl}
@@ -50,18 +50,18 @@ module _ (S : ℕ) (code label : ℕ → ℕ) (left : ℕ) (g : List Pair) where
   abbrev cs : List ℕ
   cs = childCodes code g []
 
-  -- going into the child by code c, where p's base is b
+  -- going into the child by code c, if p's base is b
   abbrev into : ℕ → ℕ → List ℕ → Option (List ℕ)
   into b c x = place S code label (left - 1) (slotUnder b c) (below (label c) g) x
 
-  -- slot p's children were placed under b: the work was w and is u
+  -- slot p's children were placed under b: the work was w before and is u after
   pub record Started (n p : ℕ) (w : List ℕ) (b : ℕ) (u : List ℕ) : Type 0 where
     pub some-left : left ≢ 0
     pub fresh : Fresh S w p
     pub codes-in : CodesIn code n g
     pub settled : settle S p (endValue g) cs w ≡ some (b, u)
 
-  -- and those of the first j codes, which the room holds at its front, were gone into: the work is x
+  -- and placing has gone into the children by the first j codes: the work is x, and the codes are at the front of the room
   pub record Going (k b : ℕ) (u room₀ room : List ℕ) (j : ℕ) (x : List ℕ) : Type 0 where
     pub to-last : j ≤ k
     pub small : k ≤ maxKeys
@@ -79,7 +79,7 @@ module _ (S : ℕ) (code label : ℕ → ℕ) (left : ℕ) (g : List Pair) where
     unfolding place placedAs
     no-label-left e = sym (ap (λ (k : ℕ). place S code label k p g w) e)
 
-    -- what settling p answers decides
+    -- what follows after settling p, depending on its answer
     abbrev then : Option (ℕ × List ℕ) → Option (List ℕ)
     then o = elim o as (λ _. Option (List ℕ)) [ none ↦ none | some s ↦ intoEach (into (s .0)) cs (s .1) ]
 
@@ -158,15 +158,15 @@ module _ {S : ℕ} {code label : ℕ → ℕ} {left : ℕ} {g : List Pair} {n p 
         fresh-there : Fresh S x (slotUnder b c)
         fresh-there = rw is (next-fresh S p (endValue g) codes w b u (s .fresh) rises up j x (going .done) (omega (arith, count-is)))
 
-        -- it may be gone into
+        -- it is fresh
         pub turn-fresh : Fresh S x t
         turn-fresh = rw at fresh-there
 
-        -- with what is left of the room
+        -- the rest of the room is long enough for it
         pub turn-room : (m r : ℕ) (f : List Pair) → m ≡ length g → r ≡ length f → f ≡ below (label c) g → m + left ≤ length room₀ → r + (left - 1) ≤ length (take (length room - k) (drop k room))
         turn-room m r f e q group h = omega (arith, ap length group, codes-few code (label c) g, count-is, going .size, s .some-left, length-take (length room - k) (drop k room), length-drop k room)
 
-        -- it is: f is the child's group, r the answer, z the work then
+        -- placing has gone into it: f is the child's group, r the answer, and z the work after it
         module _ (some-code : c ≢ 0) {f : List Pair} (group : f ≡ below (label c) g) (r : Bool) (z : List ℕ) (placed : placedAs r z ≡ place S code label (left - 1) t f x) where
           into-child : go c x ≡ placedAs r z
           into-child = sym (placed ∙ rw (at, group) refl)

@@ -1,4 +1,4 @@
--- What `place` knows while it goes into the children of a slot, and what it has to show there of a child.
+-- What `place` knows while it goes into the children of a slot, and what it has to show of each child.
 use Prim.Native.Nat.{ℕ, _+_, _*_, _-_, _^_, _≤_, _<_}
 use mathlib.Core.Path.{_≡_, _∙_}
 use mathlib.Core.Logic.{_≢_}
@@ -27,7 +27,7 @@ use Rattle.lxtr_place.specs.GatheredCodes.{order-long, order-inside}
 use Rattle.lxtr_place.specs.Turns.{Started, Going, start, going-start, going-size, going-end, turn-small, turn-past, turn-fresh, turn-room, turn-on, turn-refused}
 
 module _ (keys starts labels codes order : List ℕ) (S left p : ℕ) (g : Group) (w r : List ℕ) where
-  -- what `place` is called with
+  -- what holds when `place` is called
   pub record Called : Type 0 where
     pub tables : CodeTables (pairsOf keys) labels codes order
     pub placeable : Placeable keys labels codes g
@@ -35,7 +35,7 @@ module _ (keys starts labels codes order : List ℕ) (S left p : ℕ) (g : Group
     pub deep : left + g .depth ≡ lengthCount
     pub lent : Lent keys starts g left r
 
-  -- and p's children, whose codes are the first k of the room, were placed under b: the work was w and is u
+  -- and p's children, whose codes are the first k numbers of the room, were placed under b: the work was w before and is u after
   pub record Within (k b : ℕ) (u room : List ℕ) : Type 0 where
     pub called : Called
     pub few : k ≤ g .count
@@ -95,12 +95,12 @@ module _ {keys starts labels codes order : List ℕ} {S left p : ℕ} {g : Group
       pub past-end : c ≡ 0 → (room′ y : List ℕ) → room′ ≡ room → y ≡ x → GoingOn room′ (j + 1) y
       past-end = turn-past (s .started) going h e
 
-      -- and that of a child
+      -- c is not the code of an end
       module _ (some : c ≢ 0) where
         small : c ≤ length labels
         small = turn-small (s .started) going h e
 
-        -- what `child_group` asks
+        -- what `child_group` requires
         pub child-asked : (Grouped keys g × Indexed keys starts g) × (Ascending (groupOf keys g) × ((g .depth < lengthCount) × (((1 ≤ c) × (c ≤ length order)) × (getD order (c - 1) 0 < length labels))))
         child-asked =
             let a = s .called in
@@ -109,7 +109,7 @@ module _ {keys starts labels codes order : List ℕ} {S left p : ℕ} {g : Group
 
         -- its slot is t and its group f
         module _ {t : ℕ} (at : t ≡ slotUnder b c) {f : Group} (group : groupOf keys f ≡ below (labelBy labels order c) (groupOf keys g)) where
-          -- what `place` asks of it
+          -- what `place` requires for it
           pub child-called : Grouped keys f → f .depth ≡ g .depth + 1 → Indexed keys starts f → Called keys starts labels codes order S (left - 1) t f x (take (length room - k) (drop k room))
           child-called whole deeper ix = record {
             tables = s .called .tables;
@@ -119,7 +119,7 @@ module _ {keys starts labels codes order : List ℕ} {S left p : ℕ} {g : Group
             lent = record { indexed = ix; long = turn-room (s .started) going h e at _ _ _ (group-size keys g) (group-size keys f) group (omega (arith, s .called .lent .long, s .size)) };
           }
 
-        -- f are its keys, o is the answer, z the work then
+        -- f are its keys, o is the answer, and z the work after it
         module _ {t : ℕ} (at : t ≡ slotUnder b c) {f : List Pair} (group : f ≡ below (labelBy labels order c) (groupOf keys g)) (o : Bool) (z : List ℕ) (placed : placedAs o z ≡ place S (codeBy labels codes) (labelBy labels order) (left - 1) t f x) where
           pub child-placed : not o ≡ false → (ys room′ y : List ℕ) → room′ ≡ take k room ++ ys → length room′ ≡ length room → y ≡ z → GoingOn room′ (j + 1) y
           child-placed = turn-on (s .started) going h e at some group o z placed

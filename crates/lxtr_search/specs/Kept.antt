@@ -21,7 +21,7 @@ use Rattle.lxtr_laws.specs.QueryLabels.{label-count}
 use Rattle.lxtr_laws.specs.Walking.{Walked}
 use Rattle.lxtr_search.specs.Matches.{counted, matchesTo, match-count, matches-start, matches-next}
 
--- the answer of prefixes whose first n places are filled
+-- the answer of prefixes with n matches
 abbrev pub filled : ℕ → List ℕ → List ℕ → Prefixes
 filled n ks vs = record { refusal = 0; count = n; lengths = ks; values = vs }
 
@@ -30,7 +30,7 @@ abbrev pub withMatch : Prefixes → ℕ → Option ℕ → Prefixes
 withMatch p k none = p
 withMatch p k (some v) = record { refusal = p .refusal; count = p .count + 1; lengths = set (p .lengths) (p .count) k; values = set (p .values) (p .count) v }
 
--- length k if it has a value, otherwise the one before
+-- length k if it has a value, otherwise the length before
 abbrev pub laterLength : ℕ → ℕ → Option ℕ → ℕ
 laterLength before k none = before
 laterLength before k (some v) = k
@@ -62,7 +62,7 @@ later-within : (before k n : ℕ) (o : Option ℕ) → before ≤ n → k ≤ n 
 later-within before k n none h l = h
 later-within before k n (some v) h l = l
 
--- of the lengths below n the last is at most n - 1
+-- among the lengths below n, the last match is at most n - 1
 last-within : (f : List ℕ → Option ℕ) (xs : List ℕ) (n : ℕ) → lastLength (concatFrom n 0 (matchAt f xs)) ≤ n - 1
 unfolding concatFrom lastLength matchAt
 last-within f xs zero = omega arith
@@ -82,12 +82,12 @@ module _ (b q : List ℕ) where
   unfolding prefixMatches matches
   longest-within = omega (arith, last-within (valueOf b) (counted q) (length (counted q) + 1), length-take maxLabels (labelsOf q), label-count q)
 
-  -- and has no more labels than count
+  -- and it has no more labels than those that count
   longest-counted : lastLength (prefixMatches b q) ≤ maxLabels
   unfolding prefixMatches matches
   longest-counted = omega (arith, last-within (valueOf b) (counted q) (length (counted q) + 1), length-take maxLabels (labelsOf q))
 
-  -- both also after a refusal, when its length is 0
+  -- both hold after a refusal too, when the length is 0
   pub longest-bytes : 4 * longestLength b q ≤ length q
   unfolding longestLength
   longest-bytes = omega (arith, zero-or-less (searchRefusal b q) (lastLength (prefixMatches b q)), longest-within)
@@ -99,12 +99,12 @@ module _ (b q : List ℕ) where
   pub longest-part : (n : ℕ) → n ≡ lastLength (prefixMatches b q) → 4 * n ≡ length (take (4 * n) q)
   longest-part n e = sym (length-take-le (4 * n) q (rw e longest-within))
 
-  -- the first slot's match
+  -- the match at slot 1
   pub filled-start : (empty first : Prefixes) (f : Found) → Walked b (counted q) 0 1 → empty ≡ prefixesAnswer 0 [] → found f ≡ valueAt b 1 → first ≡ withMatch empty 0 (found f)
       → first ≡ prefixesAnswer 0 (matchesTo b q 0)
   filled-start empty first f w e g r = rw (r, g, e, filled-more 0 0 (valueAt b 1) [] (omega arith), matches-start b q w)
 
-  -- of a loop's turn
+  -- a turn of the loop
   module _ (i t : ℕ) (f : Found) (w : Walked b (counted q) (i + 1) t) (value : found f ≡ valueAt b t) where
     pub filled-next : (before next : Prefixes) → before ≡ prefixesAnswer 0 (matchesTo b q i) → next ≡ withMatch before (i + 1) (found f) → next ≡ prefixesAnswer 0 (matchesTo b q (i + 1))
     filled-next before next e g = rw (g, e, value, filled-more 0 (i + 1) (valueAt b t) (matchesTo b q i) (omega (arith, match-count b q i, w .so-far, length-take maxLabels (labelsOf q))), matches-next b q i t w)

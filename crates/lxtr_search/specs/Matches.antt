@@ -1,5 +1,5 @@
--- The prefixes of a query that have a value, as one walk finds them: `matchesTo b q i` are those of the lengths up to i.
--- Each slot on the way adds its own; where the walk stops, no longer prefix has a value.
+-- The prefixes of a query that have a value, as one walk finds them: `matchesTo b q i` are those of lengths up to i.
+-- Each slot on the way adds its own match. If the walk stops, no prefix beyond that point has a value.
 use Prim.Native.Nat.{ℕ, _+_, _-_, _≤_, _<_}
 use mathlib.Core.Path.{_≡_, sym, ap, _∙_}
 use mathlib.Core.List.{List, _++_, append-nil}
@@ -85,7 +85,7 @@ module _ (b q : List ℕ) where
     unfolding prefixMatches matches
     ended h = let e : i ≡ length (counted q) = omega (arith, w .so-far) in rw e
 
--- what was kept of the matches so far is then what is kept of all
+-- what is kept of the matches so far is then what is kept of all
 module _ {A : Type 0} (keep : List (ℕ × ℕ) → A) (b q : List ℕ) (m i n : ℕ) (a : A) (count : m ≡ length (counted q)) (w : Walked b (counted q) i n) (kept : a ≡ keep (matchesTo b q i)) where
   pub kept-stop : (x : ℕ) (f : Found) → i < m → x ≡ getD (labelsOf q) i 0 → found f ≡ stepBy b n x → f ≡ Nothing → a ≡ keep (prefixMatches b q)
   kept-stop x f turn label answer h = kept ∙ ap keep (stopped b q m i n count w x f turn label answer h)

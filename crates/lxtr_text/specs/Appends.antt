@@ -1,4 +1,4 @@
--- Bytes put into a line behind what is in it, as far as the line goes. One behind the other they are put as if at once.
+-- Bytes appended to what is in a line, as far as the line goes. Appending them one after the other is the same as all at once.
 use Prim.Native.Nat.{ℕ, _+_, _-_, _≤_, _<_}
 use native.Mathlib.Omega.{arith}
 use native.Mathlib.Decide.{decLe}
@@ -8,15 +8,15 @@ use lib.ListN.{length, take, set, length-take, length-append, length-set}
 use lib.Seq.{take-all, take-append-le, take-append-add, length-take-le}
 use Rattle.lxtr_laws.specs.Overlays.{over, over-length, over-none, over-set, over-over}
 
--- as many of the bytes xs as go into the line from a place on
+-- as many of the bytes xs as fit into the line, starting at place `at`
 abbrev front : List ℕ → ℕ → List ℕ → List ℕ
 front line at xs = take (length line - at) xs
 
--- they lie in the line from that place on, the rest stays, and r is the place behind them
+-- these are in the line, starting at that place; the rest stays, and r is the place after them
 pub record Appended (line : List ℕ) (at : ℕ) (xs line′ : List ℕ) (r : ℕ) : Type 0 where
   pub is : line′ ≡ over line at (front line at xs)
   pub next : r ≡ at + length (front line at xs)
-  -- the two facts that the part of the line up to that place asks
+  -- the two facts that cutting the line at that place requires
   pub within : r ≤ length line′
   pub cut : r ≡ length (take r line′)
 
@@ -55,7 +55,7 @@ module _ {line : List ℕ} {at : ℕ} {xs line′ : List ℕ} {m : ℕ} (p : App
   left : length line - m ≡ length line - at - length xs
   left = let e = length-take (length line - at) xs in omega (arith, p .next)
 
-  -- more bytes behind the first ones
+  -- more bytes after the first ones
   pub append-more : {ys line″ : List ℕ} {r : ℕ} → Appended line′ m ys line″ r → Appended line at (xs ++ ys) line″ r
   append-more {ys} {line″} {r} q =
       let n : length line′ - m ≡ length line - at - length xs = rw append-length left in
@@ -67,7 +67,7 @@ module _ {line : List ℕ} {at : ℕ} {xs line′ : List ℕ} {m : ℕ} (p : App
         cut = q .cut;
       }
 
--- ---- a text put piece by piece: what of it is still to come
+-- ---- a text appended piece by piece: what of it is still to come
 
 pub record Begun (line : List ℕ) (at : ℕ) (text line′ : List ℕ) (end : ℕ) (rest : List ℕ) : Type 0 where
   pub done : List ℕ

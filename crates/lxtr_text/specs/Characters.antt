@@ -1,4 +1,4 @@
--- A label as text: the bytes of its character one behind the other, by the rows of the table; what is shown in its place.
+-- A label as text: the bytes of its character, one after the other, by the rows of the table; and what is shown instead of it.
 use Prim.Native.Nat.{ℕ, _+_, _/_, _≤_, _<_}
 use native.Mathlib.Omega.{arith}
 use mathlib.Core.Path.{_≡_, refl, sym, _∙_}

@@ -1,4 +1,4 @@
--- Forms: what each byte of one gives, and what is still to come.
+-- Forms: what each byte of a form gives, and what is still to come.
 use Prim.Native.Nat.{ℕ, _+_, _-_, _≤_, _<_}
 use native.Mathlib.Omega.{arith}
 use native.Mathlib.Decide.{decLt}
@@ -76,7 +76,7 @@ module _ (c k n : ℕ) where
       go (yes l) false = rw (lt-ltb k n l) h
       go (no g) t = rw (le-ltb k n (omega arith)) h
 
--- what is left there
+-- the numbers that are left there
 left-after : (c k : ℕ) (ns : List ℕ) → drop (nextPlace c k (length ns)) ns ≡ cond (takes c) (drop 1 (drop k ns)) (drop k ns)
 unfolding nextPlace
 left-after c k ns = go (decLt k (length ns)) (takes c)
@@ -87,7 +87,7 @@ left-after c k ns = go (decLt k (length ns)) (takes c)
     go (no g) true = rw (le-ltb k (length ns) (omega arith)) (drop-of-length-le ns {i = k} (omega arith) ∙ sym (drop-drop 1 k ns ∙ drop-of-length-le ns {i = k + 1} (omega arith)))
     go (no g) false = rw (le-ltb k (length ns) (omega arith)) refl
 
--- ---- what of a form is still to come, at byte i of it and with the numbers from place k on left
+-- ---- what is still to come of a form, at byte i of it, with the numbers from place k up left
 
 abbrev pub formRest : List ℕ → List ℕ → ℕ → ℕ → List ℕ
 formRest form ns i k = filled (drop i form) (drop k ns)

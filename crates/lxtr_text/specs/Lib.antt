@@ -1,5 +1,5 @@
--- Text put byte after byte. A reader of contracts meets Appended of Appends. Rooms says that forms are not cut, and TextExamples is a
--- table of examples.
+-- Text appended byte by byte. A reader of contracts meets Appended of Appends. Rooms says that forms are not cut, and TextExamples
+-- is a table of examples.
 pub mod Appends
 pub mod Numerals
 pub mod Characters

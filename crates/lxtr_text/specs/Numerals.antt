@@ -1,4 +1,4 @@
--- The digits of a number: they are put into a line by what `append_numeral` does.
+-- The digits of a number, as `append_numeral` appends them to a line.
 use Prim.Native.Nat.{ℕ, suc, _-_, _/_, _%_, _≤_, _<_}
 use native.Mathlib.Omega.{arith}
 use native.Mathlib.Nat.{mod-lt}

@@ -1,4 +1,4 @@
--- Forms go whole into a line of LINE_ROOM bytes: how long the parts of a line may be, and that what goes into the line is all there.
+-- Forms fit wholly into a line of LINE_ROOM bytes: how long the parts of a line may be, and that a text that fits is all there.
 use Prim.Native.Nat.{ℕ, zero, suc, _+_, _*_, _-_, _/_, _%_, _≤_}
 use native.Mathlib.Omega.{arith}
 use mathlib.Core.Path.{_≡_, refl, sym, _∙_}
@@ -14,14 +14,14 @@ use Rattle.lxtr_command_spec.specs.Utf8.{tailByte, utf8}
 use Rattle.lxtr_command_spec.specs.Forms.{isControl, shown, quoted, nextNumber, piece, takes, filled}
 use Rattle.lxtr_text.specs.Appends.{Appended}
 
--- room for a form, or for what a line has besides the labels of a key; with the labels it is LINE_ROOM
+-- room for a form, or for what a line has besides the labels of a key; together with room for the labels it is LINE_ROOM
 abbrev pub formRoom : ℕ
 formRoom = 192
 
 abbrev pub lineRoom : ℕ
 lineRoom = formRoom + 13 * maxLabels
 
--- a text that is not longer than the line is all there
+-- a text that is not longer than the line is wholly there
 pub all-there : (line text line′ : List ℕ) (r : ℕ) → Appended line 0 text line′ r → length text ≤ length line → (r ≡ length text) × (take r line′ ≡ text)
 unfolding over
 all-there line text line′ r p h =
@@ -64,7 +64,7 @@ pub shown-length : (x : ℕ) → length (shown x) ≤ 4
 unfolding shown
 shown-length x = either (isScalar x && not (isControl x)) 4 (utf8 x) (utf8 0xFFFD) (utf8-length x) (utf8-length 0xFFFD)
 
--- ---- forms: a mark gives ten bytes or fewer, and any other byte itself
+-- ---- forms: a mark gives at most ten bytes, and any other byte gives itself
 
 unfoldable pub marks : List ℕ → ℕ
 marks [] = 0

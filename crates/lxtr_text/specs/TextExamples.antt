@@ -65,7 +65,7 @@ examples =
     ∷ fills "@@" (0x304B ∷ 0x306A ∷ []) (ka ++ na)
     ∷ fills "end\n" (1 ∷ []) (ascii "end\n")
     ∷ fills "" (1 ∷ []) []
-    -- too few numbers: 0, and a control character for a label
+    -- too few numbers: 0 is taken instead, which as a label is a control character
     ∷ fills "% $ %" (7 ∷ []) (ascii "7 0 0")
     ∷ fills "%@" (7 ∷ []) (ascii "7" ++ replacement)
     -- too many

@@ -1,4 +1,4 @@
--- The two loops over a text: one counts its labels, one writes them. And what `decode` makes of them.
+-- The two loops over a text: one counts its labels, the other writes them; and what `decode` makes of them.
 use Prim.Native.Nat.{ℕ, suc, _+_, _-_, _*_, _/_, _≤_, _<_}
 use native.Mathlib.Omega.{arith}
 use native.Mathlib.Nat.{add-zero, zero-add, le-refl}
@@ -20,7 +20,7 @@ use Rattle.lxtr_command_spec.specs.Utf8.{optionCons, labelsOfText, counted, cou
 use Rattle.lxtr_utf8.specs.Fronts.{FrontOf}
 use Rattle.lxtr_utf8.specs.Texts.{cons-some, labels-end, labels-stop, labels-next, front-within}
 
--- the labels of a text that is UTF-8
+-- the labels of a text; none if it is not UTF-8
 unfoldable pub orEmpty : Option (List ℕ) → List ℕ
 orEmpty none = []
 orEmpty (some xs) = xs
@@ -31,7 +31,7 @@ labelsIn t = orEmpty (labelsOfText t)
 abbrev pub IsText : List ℕ → Type 0
 IsText t = labelsOfText t ≡ some (labelsIn t)
 
--- what is left of a text from a place on, as the code lends it
+-- what is left of a text, starting at a place, as the code lends it
 abbrev pub from : List ℕ → ℕ → List ℕ
 from t at = take (length t - at) (drop at t)
 
@@ -59,7 +59,7 @@ module _ (t : List ℕ) (at x len : ℕ) (more : at < length t) (part : FrontOf 
 
 -- ---- the count
 
--- n labels and those of the rest
+-- n labels, and those of the rest
 unfoldable pub countedAfter : ℕ → Option (List ℕ) → Decoded
 countedAfter n none = record { problem = 1; count = 0 }
 countedAfter n (some xs) = record { problem = 0; count = n + length xs }
@@ -109,7 +109,7 @@ cons-place xs i x ys e =
     let s : x ∷ ys ≡ getD xs i 0 ∷ drop (suc i) xs = sym e ∙ drop-cons xs i 0 h in
     (h, cc, rw (add-one i) (cc))
 
--- the first i labels of the text are in the room, and those of what follows in the text are the others
+-- the first i labels of the text are in the room, and the rest of the text has the others
 pub record LabelsPut (t room : List ℕ) (at i : ℕ) (room′ : List ℕ) : Type 0 where
   pub to : at ≤ length t
   pub few : i ≤ length (labelsIn t)
@@ -123,7 +123,7 @@ module _ (t room : List ℕ) (text : IsText t) where
 
   module _ (large : 4 * length (labelsIn t) ≤ length room) (at i : ℕ) (room′ : List ℕ) (before : LabelsPut t room at i room′) where
     module _ (x len : ℕ) (more : at < length t) (part : FrontOf (from t at) x len) where
-      -- the text goes on with a character
+      -- the text continues with a character
       pub put-some : len ≢ 0
       put-some z = let e = sym (from-stop t at x len more part z) ∙ before .left in let w : _≡_ {A = ℕ} 0 1 = cc in omega arith
 

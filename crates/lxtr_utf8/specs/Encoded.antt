@@ -1,4 +1,4 @@
--- The labels of a text have it as their text, and scalar values are the labels of theirs: so RFC 3629's sentences hold.
+-- The text of a text's labels is that text, and scalar values are the labels of their text: so the sentences of RFC 3629 hold.
 use Prim.Native.Nat.{ℕ, zero, suc, _+_, _*_, _/_, _%_, _≤_, _<_}
 use native.Mathlib.Omega.{arith}
 use native.Mathlib.Decide.{decLt}
@@ -65,7 +65,7 @@ read (suc k) t xs h e = go (read k) (decLt 0 (length t)) (beginsRight t) refl
 
 -- ---- the text of labels
 
--- the bits of a number's bytes give the number: q, m, p and r are what is left of it and its six-bit parts
+-- The bits of a number's bytes give the number: r, m and p are its six-bit parts, starting with the lowest, and q is what is left.
 bits-two : (q r : ℕ) → q < 32 → r < 64 → (0xC0 + q) % 32 * 64 + (0x80 + r) % 64 ≡ q * 64 + r
 bits-two q r h k = omega arith
 

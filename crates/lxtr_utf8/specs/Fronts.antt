@@ -16,7 +16,7 @@ use Rattle.lxtr_command_spec.specs.Utf8.{tailByte, utf8, frontNumber, beginsWit
 unfoldable pub byteIs : List ℕ → ℕ → ℕ → Bool
 byteIs t i x = ltb i (length t) && eqb (byteAt t i) x
 
--- how many bytes the character at the front has; 0 where there is none
+-- how many bytes the character at the front has; 0 if there is none
 unfoldable pub frontLength : List ℕ → ℕ
 frontLength t = cond (beginsRight t) (length (utf8 (frontNumber t))) 0
 
@@ -62,7 +62,7 @@ module _ (x : ℕ) where
   unfolding utf8
   four-bytes l = rw (le-ltb x 0x80 (omega arith), le-ltb x 0x800 (omega arith), le-ltb x 0x10000 l)
 
-  -- as answers of `byte_count`
+  -- the same as answers of `byte_count`
   pub count-one : x < 0x80 → 1 ≡ length (utf8 x)
   count-one h = rw (one-byte h)
 
@@ -105,7 +105,7 @@ module _ (t : List ℕ) (a : ℕ) (first : a ≡ byteAt t 0) where
       number-four d fourth l h =
           rw (sym first, sym second, sym third, sym fourth, le-ltb a 0x80 (omega arith), le-ltb a 0xC0 (omega arith), le-ltb a 0xE0 (omega arith), le-ltb a 0xF0 l, lt-ltb a 0xF8 h)
 
--- ---- the text begins with bytes when each of them is at its place
+-- ---- a text begins with bytes if each of them is at its place
 
 begins-at : (t : List ℕ) (i x : ℕ) (ys : List ℕ) → beginsWith (drop i t) (x ∷ ys) ≡ (byteIs t i x && beginsWith (drop (suc i) t) ys)
 unfolding byteIs beginsWith

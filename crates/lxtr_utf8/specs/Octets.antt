@@ -41,7 +41,7 @@ text-length (x ∷ xs) =
 
 -- ---- those below 80
 
--- a byte below 80 is not the first of bytes where that is 80 or more
+-- a byte below 80 is not among bytes of 80 or more
 module _ (b : ℕ) (low : b < 0x80) where
   past : {ys : List ℕ} (y : ℕ) → 0x80 ≤ y → (List·Memᴰ b ys → ⊥) → List·Memᴰ b (y ∷ ys) → ⊥
   past y h f m = ⊎-elim (λ e. omega arith) f (List·Memᴰ·cases-cons m)
@@ -67,7 +67,7 @@ module _ (b : ℕ) (low : b < 0x80) where
 
 -- ---- those that never appear
 
--- neither C0 nor C1 nor from F5 on
+-- neither C0 nor C1 nor F5 or above
 abbrev Seen : ℕ → Type 0
 Seen b = (b < 0xC0) ⊎ ((0xC2 ≤ b) × (b < 0xF5))
 

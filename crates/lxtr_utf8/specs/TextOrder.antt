@@ -15,7 +15,7 @@ use Rattle.lxtr_command_spec.specs.Utf8.{tailByte, utf8, textOf}
 use Rattle.lxtr_utf8.specs.Fronts.{Size, one, two, three, four, size-of, one-byte, two-bytes, three-bytes, four-bytes}
 use Rattle.lxtr_utf8.specs.Texts.{some-bytes}
 
--- bytes of numbers that come in the order of the numbers, whatever follows
+-- the bytes of numbers are ordered as the numbers are, whatever follows them
 abbrev Rises : (ℕ → List ℕ) → Type 0
 Rises f = (x y : ℕ) (s t : List ℕ) → x < y → comesBefore (f x ++ s) (f y ++ t) ≡ true
 
@@ -25,7 +25,7 @@ first-less x y k l h = first-or-rest x y k l .1 (inl h)
 lead : ℕ → ℕ → List ℕ
 lead b x = (b + x) ∷ []
 
--- a byte of the six lowest bits behind the bytes of the others
+-- the bytes of all bits but the six lowest, and then a byte with these
 more : (ℕ → List ℕ) → ℕ → List ℕ
 more f x = f (x / 64) ++ (tailByte x ∷ [])
 
@@ -44,7 +44,7 @@ more-rises f rises x y s t h =
         let e : x / 64 ≡ y / 64 = omega arith in
         rw (e, before-common (f (y / 64)) (tailByte x ∷ s) (tailByte y ∷ t)) (first-less (tailByte x) (tailByte y) s t (omega arith))
 
--- the four forms, in these words
+-- the four forms in these terms
 pub by-64 : (x : ℕ) → x / 4096 ≡ x / 64 / 64
 by-64 x = sym (div-div-eq-div-mul x 64 64)
 
@@ -98,7 +98,7 @@ text-some : (x : ℕ) (xs : List ℕ) → 1 ≤ length (textOf (x ∷ xs))
 unfolding textOf
 text-some x xs = omega (arith, length-append (utf8 x) (textOf xs), some-bytes x)
 
--- for lists of labels
+-- the order of lists of labels
 pub order-of-labels : (xs ys : List ℕ) → comesBefore xs ys ≡ comesBefore (textOf xs) (textOf ys)
 unfolding comesBefore textOf
 order-of-labels [] [] = refl

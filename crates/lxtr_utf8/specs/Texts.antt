@@ -1,4 +1,4 @@
--- The labels of a text, one character after the other: what the first character leaves of the text has the other labels.
+-- The labels of a text, character by character: what is left after the first character has the other labels.
 use Prim.Native.Nat.{ℕ, zero, suc, _-_, _≤_, _<_}
 use native.Mathlib.Omega.{arith}
 use native.Mathlib.Decide.{decLt}
@@ -18,7 +18,7 @@ use Rattle.lxtr_utf8.specs.Fronts.{Size, one, two, three, four, size-of,
 
 -- ---- what a text begins with
 
--- bytes that a text begins with, and the rest
+-- bytes that a text begins with, and the rest of the text
 pub begins-split : (t ys : List ℕ) → beginsWith t ys ≡ true → t ≡ ys ++ drop (length ys) t
 unfolding beginsWith
 begins-split t [] e = refl
@@ -29,7 +29,7 @@ begins-split (x ∷ t) (y ∷ ys) e =
 pub begins-length : (t ys : List ℕ) → beginsWith t ys ≡ true → length ys ≤ length t
 begins-length t ys e = omega (arith, ap length (begins-split t ys e), length-append ys (drop (length ys) t))
 
--- a character has a byte or more
+-- a character has at least one byte
 pub some-bytes : (x : ℕ) → 1 ≤ length (utf8 x)
 some-bytes x = go (size-of x)
   where
@@ -55,7 +55,7 @@ unfolding labelsWithin
 within-end zero t z = rw (z, labelsWithin)
 within-end (suc k) t z = rw (z, labelsWithin)
 
--- the number does not matter where it is as large as the text is long
+-- the number does not matter if it is at least the length of the text
 within-same : (k m : ℕ) (t : List ℕ) → length t ≤ k → length t ≤ m → labelsWithin k t ≡ labelsWithin m t
 within-same zero m t h l = within-end 0 t (omega arith) ∙ sym (within-end m t (omega arith))
 within-same (suc k) zero t h l = within-end (suc k) t (omega arith) ∙ sym (within-end 0 t (omega arith))
@@ -98,7 +98,7 @@ module _ (t : List ℕ) (more : 1 ≤ length t) where
   unfolding labelsOfText
   labels-wrong e = let k : length t ≡ suc (length t - 1) = omega arith in ap (λ (n : ℕ). labelsWithin n t) k ∙ within-none (length t - 1) t more e
 
-  -- the same by the first character
+  -- the same, for the first character
   module _ (x n : ℕ) (front : FrontOf t x n) where
     pub labels-stop : n ≡ 0 → labelsOfText t ≡ none
     unfolding frontLength

@@ -9,16 +9,16 @@ use Rattle.lxtr_laws.specs.ExampleTables.{AllHold, _and_}
 use Rattle.lxtr_command_spec.specs.Utf8.{utf8, textOf, frontNumber, beginsWith, beginsRight, optionCons, labelsWithin, labelsOfText, counted, countOf, decoding, decodingOf}
 
 pub data Example : Type 0 where
-  -- a text, its labels
+  -- a text and its labels
   reads : List ℕ → List ℕ → Example
   -- a text that is not UTF-8
   refused : List ℕ → Example
 
--- n bytes that no label leaves by chance
+-- n bytes of room before the call; no label is written as four such bytes
 abbrev unwritten : ℕ → List ℕ
 unwritten n = replicate n 0xFF
 
--- what an example says: the text of the labels; their number; room for them and a byte more; room that is a byte too small
+-- what an example says: the text of the labels; their number; room for them and one byte more; room that is one byte too small
 abbrev pub Holds : Example → Type 0
 Holds (reads t xs) =
     (textOf xs ≡ t)

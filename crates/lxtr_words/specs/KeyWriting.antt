@@ -29,7 +29,7 @@ module _ (t l : List ℕ) (i : ℕ) (h : i < length l) where
   pub this-right : Table t l → WordRight t (getD l i 0)
   this-right tab = tab .right (getD l i 0) (member-at 0 l i h)
 
-  -- those of key i, and those after it
+  -- the bytes of key i, and those of the keys after it
   records-next : keyRecords (drop i (keysOf t l)) ≡ (length (keyOf t (getD l i 0)) ∷ beWords (keyOf t (getD l i 0))) ++ keyRecords (drop (i + 1) (keysOf t l))
   unfolding keyRecords
   records-next = ap keyRecords (drop-cons (keysOf t l) i [] (omega (arith, keys-length t l))) ∙ rw (keys-at t l i h, add-one i) refl
@@ -69,14 +69,14 @@ module _ (t l : List ℕ) where
   sum-start = record { to = omega arith; small = omega arith; left = list-size (keysOf t l) }
 
   module _ (total i : ℕ) (s : Summed t l total i) where
-    -- n labels more
+    -- n more labels
     pub sum-next : (n : ℕ) → i < length l → n ≡ length (keyOf t (getD l i 0)) → n < 2 ^ 8 → Summed t l (total + (1 + 4 * n)) (i + 1)
     sum-next n h is small = record { to = omega arith; small = omega (arith, s .small); left = omega (arith, s .left, records-less t l i h) }
 
     pub sum-end : length l ≤ i → total ≡ length (keyList (keysOf t l))
     sum-end h = omega (arith, s .left, ap length (records-end t l i h))
 
--- ---- one key: its labels are decoded into the output from a place on, in a room that reaches to the end
+-- ---- one key: its labels are decoded into the part of the output that starts at a place and reaches to the end
 
 module _ (t : List ℕ) (s : ℕ) (w : WordRight t s) (out : List ℕ) (at : ℕ) where
   module _ (fits : at + 4 * length (keyOf t s) ≤ length out) (word : List ℕ) (is : word ≡ wordAt t s) (d : Decoded) (r : List ℕ)
@@ -103,7 +103,7 @@ module _ (t : List ℕ) (s : ℕ) (w : WordRight t s) (out : List ℕ) (at : ℕ
         let none : drop (length out - at) (drop at out) ≡ [] = drop-of-length-le (drop at out) {i = length out - at} (omega (arith, length-drop at out)) in
         rw (none, append-nil, room, drop-drop, words-size big (keyOf t s)) refl
 
-  -- and then the length byte before them
+  -- then the length byte is stored before them
   module _ (n : ℕ) (count : n ≡ length (keyOf t s)) where
     pub key-put : (out′ : List ℕ) → at + 1 + 4 * length (keyOf t s) ≤ length out → out′ ≡ over out (at + 1) (beWords (keyOf t s))
         → set out′ at n ≡ over out at (length (keyOf t s) ∷ beWords (keyOf t s))
@@ -113,7 +113,7 @@ module _ (t : List ℕ) (s : ℕ) (w : WordRight t s) (out : List ℕ) (at : ℕ
         rw (e, over-set (over out (at + 1) ws) at n (omega (arith, over-length out (at + 1) ws (omega arith))), ← count)
         (sym (over-comm out at (n ∷ []) (at + 1) ws (omega arith) (omega arith)) ∙ over-over out at (n ∷ []) ws (at + 1) refl (omega arith))
 
--- ---- the keys from key i on are left to write, from a place on: they make of the output what all keys make of it
+-- ---- the keys from key i up are left to write, starting at place `at`: they make the output what all keys make it
 
 pub record Writing (t l out₀ out : List ℕ) (at i : ℕ) : Type 0 where
   pub size : length out ≡ length out₀
@@ -144,7 +144,7 @@ module _ (t l out₀ : List ℕ) where
     pub writing-end : length l ≤ i → out ≡ over out₀ 5 (keyRecords (keysOf t l))
     writing-end h = sym (over-none out at) ∙ ap (over out at) (sym (records-end t l i h)) ∙ g .left
 
--- ---- the whole list: version and count make out₁ of the output, and the keys then out₂
+-- ---- the whole list: version and count turn the output into out₁, and the keys turn that into out₂
 
 module _ (t l out : List ℕ) (fits : length (keyList (keysOf t l)) ≤ length out) where
   pub head-room : 5 ≤ length out

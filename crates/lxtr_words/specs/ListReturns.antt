@@ -1,4 +1,4 @@
--- The answer, from the outcomes of its parts.
+-- The answer, put together from the outcomes of its parts.
 use Prim.Native.Nat.{ℕ, _≤_, _<_}
 use mathlib.Core.Path.{_≡_, refl, sym, ap, ap₂, _∙_}
 use mathlib.Core.Logic.{_≢_}

@@ -24,7 +24,7 @@ problemAnswer (some p) = record { problem = p .0; line = p .1; count = 0; length
 
 -- ---- one word, whose labels were counted
 
--- its problem, by what was counted
+-- the problem of the word, depending on what was counted
 by-count : Decoded → ℕ
 by-count d = cond (eqb (d .problem) 0) (cond (ltb maxLabels (d .count)) 2 0) 1
 
@@ -66,7 +66,7 @@ module _ (n : ℕ) (l : List ℕ) (ls : List (List ℕ)) where
   first-some zero e h = absurd (h refl)
   first-some (suc k) e h = ap step e
 
--- no line before this one has a problem, so that the lines from here on decide
+-- no line before this one has a problem, so the lines starting here decide
 pub record NoneBefore (t : List ℕ) (line at : ℕ) : Type 0 where
   pub to : at ≤ length t + 1
   pub few : line ≤ at + 1
@@ -103,7 +103,7 @@ not-zero : (n r : ℕ) → problemAnswer (some (suc r, n)) .problem ≡ 0 → �
 unfolding problemAnswer
 not-zero n r e = omega arith
 
--- where there is none, no line has one
+-- if there is no first problem, no line has one
 pub none-right : (n : ℕ) (ls : List (List ℕ)) → problemAnswer (firstProblem n ls) .problem ≡ 0 → LinesRight ls × (firstProblem n ls ≡ none)
 unfolding firstProblem LinesRight
 none-right n [] e = (tt, refl)

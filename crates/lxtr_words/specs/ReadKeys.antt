@@ -1,4 +1,4 @@
--- A key list by its keys, read back: its bytes have these keys, and it is not refused where they rise and each is one that a list may have.
+-- A key list read back: its bytes have its keys, and it is not refused if these rise and each is a key that a list may have.
 use Prim.Native.Nat.{ℕ, _+_, _*_, _^_, _≤_, _<_}
 use mathlib.Core.Path.{_≡_, refl, sym, ap, ap₂, _∙_}
 use mathlib.Core.Logic.{_≢_}
@@ -32,7 +32,7 @@ unfoldable pub numbered : ℕ → List (List ℕ) → List Pair
 numbered i [] = []
 numbered i (k ∷ ks) = (k, i) ∷ numbered (i + 1) ks
 
--- ---- one key, behind the bytes p
+-- ---- one key, after the bytes p
 
 scalar-small : (x : ℕ) → isScalar x ≡ true → x < 2 ^ 32
 unfolding isScalar
@@ -86,7 +86,7 @@ module _ (b p k r : List ℕ) (e : b ≡ p ++ (length k ∷ (beWords k ++ r))) w
           ),
         )
 
--- ---- all keys, behind the bytes p; key i comes behind the one at the place `before`
+-- ---- all keys, after the bytes p; key i comes after the one at the place `before`
 
 module _ (b : List ℕ) where
   pub keys-read : (ks : List (List ℕ)) (p : List ℕ) (i : ℕ) → b ≡ p ++ keyRecords ks → ((k : List ℕ) → List·Memᴰ k ks → KeyRight k) → keysFrom b (length ks) i (length p) ≡ numbered i ks

@@ -13,7 +13,7 @@ use lib.ListN.{getD, length, take, drop, length-drop, drop-of-length-le}
 use lib.Seq.{drop-cons, drop-drop, getD-drop, getD-take, take-take}
 use Rattle.lxtr_command_spec.specs.WordLists.{lineFeed, carriageReturn, linesFrom, linesOf, wordOf}
 
--- what stands before the first line feed
+-- what comes before the first line feed
 unfoldable pub firstLine : List ℕ → List ℕ
 firstLine [] = []
 firstLine (c ∷ t) = elim (eqb c lineFeed) [ true ↦ [] | false ↦ c ∷ firstLine t ]
@@ -28,7 +28,7 @@ lineEnd t at = at + length (lineAt t at)
 unfoldable pub wordAt : List ℕ → ℕ → List ℕ
 wordAt t at = wordOf (lineAt t at)
 
--- the lines from a place on; past the end of the text there is none
+-- the lines that start at a place or after it; past the end of the text there is none
 unfoldable pub linesLeft : List ℕ → ℕ → List (List ℕ)
 linesLeft t at = elim (leb at (length t)) [ true ↦ linesOf (drop at t) | false ↦ [] ]
 
@@ -77,7 +77,7 @@ module _ (t : List ℕ) (at : ℕ) where
 pub left-all : (t : List ℕ) → linesOf t ≡ linesLeft t 0
 left-all t = sym (left-some t 0 (omega arith))
 
--- those of a part of the text
+-- the lines left of a part of the text
 left-part : (t : List ℕ) (at i : ℕ) → at ≤ length t → linesLeft (drop at t) i ≡ linesLeft t (at + i)
 left-part t at i h = go (decLe i (length t - at))
   where
@@ -85,7 +85,7 @@ left-part t at i h = go (decLe i (length t - at))
     go (yes l) = left-some (drop at t) i (omega (arith, length-drop at t)) ∙ ap linesOf (drop-drop i at t) ∙ sym (left-some t (at + i) (omega arith))
     go (no l) = left-none (drop at t) i (omega (arith, length-drop at t)) ∙ sym (left-none t (at + i) (omega arith))
 
--- a line begun with p goes on to the first line feed
+-- a line that begins with p continues to the first line feed
 module _ (p : List ℕ) (c : ℕ) (t : List ℕ) where
   abbrev lines : Bool → List (List ℕ)
   lines b = elim b as (λ _. List (List ℕ)) [ true ↦ p ∷ linesFrom [] t | false ↦ linesFrom (p ++ c ∷ []) t ]
@@ -119,7 +119,7 @@ left-more t at h =
     let n : at + (length (lineAt t at) + 1) ≡ at + length (lineAt t at) + 1 = omega arith in
     left-some t at h ∙ begun [] (drop at t) ∙ ap (λ (ls : List (List ℕ)). lineAt t at ∷ ls) (left-part t at (length (lineAt t at) + 1) h ∙ ap (linesLeft t) n)
 
--- ---- the end of a line is looked for from its start on: it is that of the line that starts at e
+-- ---- the loop that looks for the end of a line: at place e, it is the end of the line that starts at e
 
 pub record LineSoFar (t : List ℕ) (at e : ℕ) : Type 0 where
   pub from : at ≤ e

@@ -16,11 +16,11 @@ pub data Example : Type 0 where
   -- a text, its problem, and the line
   refuses : List ℕ → ℕ → ℕ → Example
 
--- n bytes that stand in the output before
+-- n bytes of the output before the call
 abbrev unwritten : ℕ → List ℕ
 unwritten n = replicate n 0xFF
 
--- what an example says: the list in an output of a byte more, and in one that is a byte too small
+-- what an example says: the list in an output that has one byte more, and in one that is one byte too small
 abbrev pub Holds : Example → Type 0
 Holds (lists t ks) =
     (keyedOf t (unwritten (length (keyList ks) + 1)) ≡ record { answer = record { problem = 0; line = 0; count = length ks; length = length (keyList ks) }; output = keyList ks ++ unwritten 1 })
@@ -29,18 +29,18 @@ Holds (refuses t problem line) = keyedOf t (unwritten 16) ≡ refusedWords probl
 
 unfoldable pub examples : List Example
 examples =
-    -- no line but an empty one; two of them; a carriage return alone
+    -- no line but an empty one; two empty lines; a carriage return alone
     lists [] []
     ∷ lists (0x0A ∷ []) []
     ∷ lists (0x0D ∷ []) []
     -- not sorted, and a duplicate
     ∷ lists (0x62 ∷ 0x0A ∷ 0x61 ∷ 0x0A ∷ 0x62 ∷ 0x0A ∷ []) ((0x61 ∷ []) ∷ (0x62 ∷ []) ∷ [])
-    -- lines that end with CR LF; of two carriage returns one stays
+    -- lines that end with CR LF; of two carriage returns, one stays
     ∷ lists (0x62 ∷ 0x0D ∷ 0x0A ∷ 0x61 ∷ 0x0D ∷ 0x0A ∷ []) ((0x61 ∷ []) ∷ (0x62 ∷ []) ∷ [])
     ∷ lists (0x61 ∷ 0x0D ∷ 0x0D ∷ 0x0A ∷ []) ((0x61 ∷ 0x0D ∷ []) ∷ [])
     -- empty lines, and no line feed at the end
     ∷ lists (0x61 ∷ 0x0A ∷ 0x0A ∷ 0x0D ∷ 0x0A ∷ 0x62 ∷ []) ((0x61 ∷ []) ∷ (0x62 ∷ []) ∷ [])
-    -- a prefix first; é behind z
+    -- a prefix first; é after z
     ∷ lists (0x61 ∷ 0x62 ∷ 0x0A ∷ 0x61 ∷ 0x0A ∷ []) ((0x61 ∷ []) ∷ (0x61 ∷ 0x62 ∷ []) ∷ [])
     ∷ lists (0xC3 ∷ 0xA9 ∷ 0x0A ∷ 0x7A ∷ []) ((0x7A ∷ []) ∷ (0xE9 ∷ []) ∷ [])
     -- as many labels as a key may have

@@ -1,5 +1,5 @@
--- What the code that writes an image computes, turn by turn. Of these a reader of its contracts meets the records that open SlotCounting,
--- ListWriting and SectionWriting, and WriteOutcomes.
+-- What the code that writes an image computes, turn by turn. A reader of its contracts meets only the records that open
+-- SlotCounting, ListWriting and SectionWriting, and WriteOutcomes.
 pub mod SlotCounting
 pub mod Links
 pub mod ListWriting

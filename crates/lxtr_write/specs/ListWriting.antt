@@ -1,4 +1,4 @@
--- The children lists as the code writes them: each child as an entry of the children array, behind those before it; and the offsets.
+-- The children lists as the code writes them: each child as an entry of the children array, after those before it; and the offsets.
 use Prim.Native.Nat.{ℕ, zero, suc, _+_, _*_, _-_, _^_, _≤_, _<_, min}
 use native.Mathlib.Numerals.{add-one}
 use native.Mathlib.Nat.{zero-add, add-zero}
@@ -25,7 +25,8 @@ use Rattle.lxtr_build_laws.specs.ChildLists.{Child, child-is, list-none, list-s
 use Rattle.lxtr_write.specs.SlotCounting.{Slots}
 use Rattle.lxtr_write.specs.Links.{slot, First, Linked, ahead, child, first-small, child-there, next-index, next-first, next-less}
 
--- The numbers xs were written as the entries from e on of an array that starts at a place of the output; r is the entry after them.
+-- The numbers xs were written as entries, starting at entry e, of an array that starts at place `at` of the output; r is the entry
+-- after them.
 pub record Put (out out′ : List ℕ) (at e r : ℕ) (xs : List ℕ) : Type 0 where
   pub is : out′ ≡ over out (at + 4 * e) (leWords xs)
   pub next : r ≡ e + length xs
@@ -38,7 +39,7 @@ module _ (out : List ℕ) (at e : ℕ) where
   put-one : (out′ : List ℕ) (x : ℕ) → out′ ≡ over out (at + 4 * e) (leBytes x) → Put out out′ at e (e + 1) (x ∷ [])
   put-one out′ x h = record { is = rw (words-one little) h; next = refl }
 
-  -- further entries behind the first ones
+  -- further entries after the first ones
   put-more : (out′ out″ : List ℕ) (r s : ℕ) (xs ys : List ℕ) → at + 4 * r ≤ length out → Put out out′ at e r xs → Put out′ out″ at r s ys → Put out out″ at e s (xs ++ ys)
   put-more out′ out″ r s xs ys room f g =
       let n = f .next in
@@ -62,7 +63,7 @@ module _ (w : List ℕ) (N p c : ℕ) where
 one-more : (f : ℕ → List ℕ) (i : ℕ) → concatFrom (i + 1) 0 f ≡ concatFrom i 0 f ++ f i
 one-more f i = ap (λ (k : ℕ). concatFrom k 0 f) (add-one i) ∙ concat-more f i 0 ∙ ap (λ (k : ℕ). concatFrom i 0 f ++ f k) (zero-add i)
 
--- numbers between that give nothing
+-- numbers in between that give nothing
 gives-none : (f : ℕ → List ℕ) (k m : ℕ) → ((e : ℕ) → k ≤ e → e < k + m → f e ≡ []) → concatFrom (k + m) 0 f ≡ concatFrom k 0 f
 gives-none f k zero o = ap (λ (n : ℕ). concatFrom n 0 f) (add-zero k)
 gives-none f k (suc m) o =
@@ -97,7 +98,7 @@ module _ (w : List ℕ) (N p : ℕ) (out₀ : List ℕ) (at start : ℕ) where
       so-far = rw (one-more (childBy w N p) c) (put-more out₀ at start out out′ e r (concatFrom c 0 (childBy w N p)) (childBy w N p c) (omega (arith, children-more h)) (g .so-far) q);
     }
 
--- The children so far are written, and t is the next one by its code, or 0. There is room for its entry.
+-- The children so far are written, and t is the next one by its code, or 0 if there is none. There is room for its entry.
 pub record Following (w : List ℕ) (N L p : ℕ) (out₀ : List ℕ) (at start : ℕ) (out : List ℕ) (e t : ℕ) : Type 0 where
   pub k : ℕ
   pub so-far : ChildrenSoFar w N p out₀ at start out e k
@@ -111,7 +112,7 @@ module _ (w : List ℕ) (N L : ℕ) (links : List ℕ) (s : Linked w N L N links
 
   module _ (room : at + 4 * (start + length (concatFrom (L + 1) 0 (childBy w N p))) ≤ length out₀) where
     module _ (out : List ℕ) (e t k : ℕ) (so-far : ChildrenSoFar w N p out₀ at start out e k) (f : First w N L p k t) where
-      -- no child stands between
+      -- no child is in between
       at-next : ChildrenSoFar w N p out₀ at start out e (f .reach)
       at-next =
           let m : ℕ = f .reach - k in
@@ -184,7 +185,7 @@ module _ (w : List ℕ) (N L p : ℕ) where
       unfolding baseAt
       list-put out′ r q = rw (list-some w N p L h) q
 
--- the offsets, and the lists behind them
+-- the offsets, and the lists after them
 module _ (w : List ℕ) (N L : ℕ) where
   abbrev offsets : List ℕ
   offsets = offsetsFrom w N L N 0 0
@@ -198,11 +199,11 @@ module _ (w : List ℕ) (N L : ℕ) where
       let n = length-take-le i offsets (omega (arith, offsets-length w N L N 0 0)) in
       over-length out₀ at (leWords (take i offsets)) (omega (arith, words-size little (take i offsets)))
 
-  -- the first i offsets and the lists of the first p slots, in the output out₀
+  -- the output out₀ with the first i offsets and the lists of the first p slots
   abbrev pub withLists : List ℕ → ℕ → ℕ → ℕ → List ℕ
   withLists out₀ at i p = over (over out₀ at (leWords (take i offsets))) (at + 4 * (N + 1)) (leWords (childrenBefore p))
 
-  -- so far those of the slots before p are there, and e is the entry of the next child
+  -- the offsets and lists of the slots before p are written, and e is the entry of the next child
   pub record ListsSoFar (out₀ : List ℕ) (at : ℕ) (out : List ℕ) (e p : ℕ) : Type 0 where
     pub same-length : length out ≡ length out₀
     pub to : p ≤ N
@@ -221,7 +222,7 @@ module _ (w : List ℕ) (N L : ℕ) where
     pub lists-fit : Slots w N → length (childrenIn w N L) ≤ N → e < 2 ^ 32
     lists-fit s few = omega (arith, g .next, before-few, s .few)
 
-    -- one more offset, behind which the children stay
+    -- one more offset; the children after the offsets stay
     offset-put : (out′ : List ℕ) → out′ ≡ over out (at + 4 * p) (leBytes e) → out′ ≡ withLists out₀ at (p + 1) p
     offset-put out′ h =
         let r : List ℕ = over out₀ at (leWords (take p offsets)) in

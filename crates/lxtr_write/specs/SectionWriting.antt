@@ -1,4 +1,4 @@
--- The sections of the image, each written behind the one before it.
+-- The sections of the image, each written after the one before it.
 use Prim.Native.Nat.{ℕ, _+_, _*_, _/_, _^_, _≤_, _<_}
 use native.Mathlib.Omega.{arith}
 use mathlib.Core.Path.{_≡_, refl, sym, ap, _∙_}
@@ -28,7 +28,7 @@ pub record MapOrder (labels order : List ℕ) : Type 0 where
   pub size : length order ≡ length labels
   pub inside : (i : ℕ) → i < length order → getD order i 0 < length labels
 
--- E is the number of children of N slots, where the codes go up to L; it is no more than N
+-- E is the number of children of N slots, where codes go up to L; it is at most N
 pub record Counted (w : List ℕ) (N E L : ℕ) : Type 0 where
   pub count : length (childrenIn w N L) ≡ E
   pub few : E ≤ N
@@ -43,12 +43,12 @@ pub record ImageReady (w labels order : List ℕ) : Type 0 where
   pub map-order : MapOrder labels order
   pub children : length (childrenIn w (slotsUsed w (slotsIn (length w))) (length order)) ≡ countBelow (slotsUsed w (slotsIn (length w))) (isTakenFrom2 w)
 
--- bytes behind those that were written from the output's front on
+-- bytes written after those at the output's front
 module _ (out : List ℕ) (xs : List ℕ) where
   behind : (out′ out″ : List ℕ) (i : ℕ) (ys : List ℕ) → i ≡ length xs → length xs ≤ length out → out′ ≡ over out 0 xs → out″ ≡ over out′ i ys → out″ ≡ over out 0 (xs ++ ys)
   behind out′ out″ i ys e h p q = q ∙ rw p (over-over out 0 xs ys i (omega arith) (omega arith))
 
--- the header: `LXTR`, and five numbers behind it
+-- the header: `LXTR`, and five numbers after it
 pub header-put : (out a b c d e f : List ℕ) (N E M : ℕ) → headerLength ≤ length out
     → a ≡ over out 0 magic → b ≡ over a 4 (leBytes 3) → c ≡ over b 8 (leBytes N) → d ≡ over c 12 (leBytes E) → e ≡ over d 16 (leBytes M) → f ≡ over e 20 (leBytes 0)
     → f ≡ over out 0 (headerBytes N E M)
@@ -68,7 +68,7 @@ nodes-next w N n out out′ out″ i s room all before h q = words-next little o
 pub nodes-end : (w : List ℕ) (N n : ℕ) (out out′ : List ℕ) (i : ℕ) → n ≡ 2 * N → WordsIn leWords out w nodesAt i out′ → i ≤ n → n ≤ i → out′ ≡ over out nodesAt (leWords (take (2 * N) w))
 nodes-end w N n out out′ i all before h l = words-end little out w nodesAt (2 * N) i out′ before (omega arith) (omega arith)
 
--- the label at place j of the code map: the order has the place x of the table there
+-- the label at place j of the code map: x, the number at place j of the order, is its place in the table of labels
 module _ (labels order : List ℕ) (m : MapOrder labels order) (j : ℕ) (h : j < length order) where
   pub place-fits : Fits w64 (getD order j 0)
   place-fits = fits-under w64 (getD order j 0) (2 ^ 32) (omega (arith, m .few, m .inside j h)) tt
@@ -94,7 +94,7 @@ labels-end labels order out at j out′ h l p =
     let e : j ≡ length (picked labels order) = omega (arith, picked-length labels order) in
     p ∙ ap (λ (xs : List ℕ). over out at (beWords xs)) (ap (λ (k : ℕ). take k (picked labels order)) e ∙ take-length (picked labels order))
 
--- the code map: version and count, and the labels behind them
+-- the code map: version and count, and the labels after them
 pub map-put : (out a b labels order : List ℕ) (at : ℕ) → at + 5 + 4 * length order ≤ length out
     → a ≡ over out at (1 ∷ beBytes (length order)) → b ≡ over a (at + 5) (beWords (picked labels order)) → b ≡ over out at (mapBytes (picked labels order))
 unfolding mapBytes

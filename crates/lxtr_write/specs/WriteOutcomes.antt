@@ -1,4 +1,4 @@
--- Answers beside the outcome that they stand for: a refusal, 23 or the image at the output's front.
+-- Answers, and the outcomes that they stand for: a refusal, 23, or the image at the output's front.
 use Prim.Native.Nat.{ℕ, _≤_, _<_}
 use native.Mathlib.Nat.{zero-add}
 use native.Mathlib.Omega.{arith}
@@ -10,7 +10,7 @@ use Rattle.lxtr_spec.specs.Builds.{imageIn, slotsUsed, slotsIn, Outcome, refuse
 use Rattle.lxtr_spec.specs.declared.Built.{Built}
 use Rattle.lxtr_laws.specs.Overlays.{over}
 
--- The answer, and the output before and after it, are those of an outcome. What the work holds is not said.
+-- The answer and the output after it are those of an outcome, for the output before it. What the work holds is left open.
 pub record Answers (o : Outcome) (out : List ℕ) (r : Built) (out′ : List ℕ) : Type 0 where
   pub any-work : (work : List ℕ) → record { answer = r; output = out′; work = work } ≡ answered o out work
 
@@ -18,7 +18,7 @@ pub answers-refusal : (k : ℕ) (out : List ℕ) → Answers (refuses k) out (re
 unfolding answered
 answers-refusal k out = record { any-work = λ work. refl }
 
--- 23, or the image at the output's front
+-- refusal 23, or the image at the output's front
 module _ (image out : List ℕ) where
   pub image-short : length out < length image → Answers (withRoom (length out) image) out (record { refusal = 23; length = 0 }) out
   unfolding withRoom

@@ -1,4 +1,4 @@
--- The bytes that are left fall to none.
+-- Measure: the bytes that are left to write.
 use borrow.Author.Needs.{needs}
 use Rattle.example_lines.proofs.push_number.Statement.{statement}
 use Rattle.example_lines.proofs.push_number.Tie as tie

@@ -1,4 +1,4 @@
--- The numbers that are left fall to none.
+-- Measure: the numbers that are left to write.
 use borrow.Author.Needs.{needs}
 use Rattle.example_lines.proofs.push_series.Statement.{statement}
 use Rattle.example_lines.proofs.push_series.Tie as tie

@@ -1,4 +1,4 @@
--- The place goes up to the end of the bytes.
+-- Measure: the bytes that are left to copy.
 use borrow.Author.Needs.{needs}
 use Prim.Native.Nat.{_-_}
 use lib.ListN.{length}

@@ -1,4 +1,4 @@
--- The turns that are left fall to none.
+-- Measure: the turns that are left.
 use borrow.Author.Needs.{needs}
 use Rattle.example_lines.proofs.read_bytes.Statement.{statement}
 use Rattle.example_lines.proofs.read_bytes.Tie as tie

@@ -1,4 +1,4 @@
--- Invariant: there are no more digits than places passed.
+-- Invariant: there are at most i digits, so their number does not overflow.
 use borrow.Author.Needs.{needs}
 use Prim.Native.Nat.{_≤_, _-_}
 use lib.ListN.{length}

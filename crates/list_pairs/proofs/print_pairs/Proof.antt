@@ -1,4 +1,4 @@
--- The records are read only where they lie whole in the listing.
+-- A record is read only if it lies wholly in the listing.
 use Prim.Native.Nat.{_≤_, _-_}
 use borrow.Author.Needs.{needs}
 use native.Mathlib.Omega.{arith}

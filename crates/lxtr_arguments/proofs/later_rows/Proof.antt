@@ -1,4 +1,4 @@
--- Each return is the row of the table whose name it is, behind those whose names it is not.
+-- Each return is the row of the table that has this name, after the rows that have other names.
 use borrow.Author.Needs.{needs}
 use Rattle.lxtr_command_spec.specs.Commands.{asciiFrom, ascii, laterRows}
 use Rattle.lxtr_arguments.specs.CommandRows.{this-row, next-row}

@@ -1,4 +1,4 @@
--- The loop keeps that the bytes so far are the same.
+-- Invariant: the bytes so far are the same.
 use borrow.Author.Needs.{needs}
 use Prim.Native.Nat.{_-_}
 use native.Mathlib.Omega.{arith}

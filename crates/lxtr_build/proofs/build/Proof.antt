@@ -1,4 +1,4 @@
--- 21, or what the whole list gives with cleared work, which is cleared again.
+-- Refusal 21, or what the whole list gives with cleared work, which is cleared again.
 use borrow.Author.Needs.{needs}
 use Rattle.lxtr_build.specs.BuildReturns.{work-small, all-built}
 use Rattle.lxtr_build.specs.Clearing.{cleared}

@@ -1,4 +1,4 @@
--- 20 for too many labels, otherwise what the filled part of the tables gives.
+-- Refusal 20 for too many labels; otherwise what the filled part of the tables gives.
 use borrow.Author.Needs.{needs}
 use mathlib.Core.Path.{sym}
 use native.Mathlib.Omega.{arith}

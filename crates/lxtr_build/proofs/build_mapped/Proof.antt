@@ -1,4 +1,4 @@
--- 22 where some slot has no base, otherwise the image of the work that the placing filled.
+-- Refusal 22 if some slot has no base; otherwise the image of the work that the placing filled.
 use borrow.Author.Needs.{needs}
 use Rattle.lxtr_build.specs.BuildReturns.{placed-not, image-ready, placed-built}
 use Rattle.lxtr_build.proofs.build_mapped.Statement.{statement}

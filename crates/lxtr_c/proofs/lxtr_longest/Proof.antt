@@ -1,4 +1,4 @@
--- The number of what `longest` answers: the part has four bytes a label, and no more labels than a key may have.
+-- The number of what `longest` answers: the part has four bytes per label, and no more labels than a key may have.
 use borrow.Author.Needs.{needs}
 use native.Mathlib.Omega.{arith}
 use Rattle.lxtr_c.specs.EntryNumbers.{longest-fits, longest-number}

@@ -1,4 +1,4 @@
--- The number of what `prefixes` answers. After a refusal the places stay, otherwise its words are put there.
+-- The number of what `prefixes` answers. After a refusal the places stay as they are; otherwise the words are written there.
 use borrow.Author.Needs.{needs}
 use Rattle.lxtr_c.specs.EntryNumbers.{prefixes-refused, prefixes-passed}
 use Rattle.lxtr_c.proofs.lxtr_prefixes.Statement.{statement}

@@ -1,4 +1,5 @@
--- Each fault that is there gives its number; where none is, none is refused. Rule 12 is tested where rule 10 finds no fault.
+-- Each fault gives its number if none before it is there; without a fault nothing is refused. Rule 12 is tested only if rule 10
+-- finds no fault.
 use borrow.Author.Needs.{needs}
 use Rattle.lxtr_spec.specs.Refusals.{bodyRefusal}
 use Rattle.lxtr_laws.specs.Tests.{outcome}

@@ -1,4 +1,4 @@
--- A refusal is answered with 0; where there is none, the ends are counted.
+-- A refusal is answered with 0 pairs; without one, the ends are counted.
 use borrow.Author.Needs.{needs}
 use Rattle.lxtr_check.specs.Checks.{check-refused, check-counted, check-allowed}
 use Rattle.lxtr_check.proofs.check.Statement.{statement}

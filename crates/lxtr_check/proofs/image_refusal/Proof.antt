@@ -1,4 +1,4 @@
--- A refusal of the header stands; where there is none, that of the rest does.
+-- A refusal of the header is the answer; without one, the refusal of the rest is.
 use borrow.Author.Needs.{needs}
 use Rattle.lxtr_check.specs.Checks.{header-refused, header-allowed, body-refused}
 use Rattle.lxtr_check.proofs.image_refusal.Statement.{statement}

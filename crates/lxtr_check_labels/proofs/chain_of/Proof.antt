@@ -1,4 +1,4 @@
--- The remainder, by the chains that there are.
+-- The remainder modulo the number of chains.
 use mathlib.Core.Path.{refl}
 use Rattle.lxtr_check_labels.specs.Chains.{chainOf, chain-below}
 use Rattle.lxtr_check_labels.proofs.chain_of.Statement.{statement}

@@ -1,4 +1,5 @@
--- Invariant: no label before this one is wrong, and the tables hold the chains of all before it. A wrong one is the answer.
+-- Invariant: no label before this one is wrong, and the tables hold the chains of the labels before it. The first wrong one is the
+-- answer.
 use borrow.Author.Needs.{needs}
 use mathlib.Core.Path.{_≡_}
 use Prim.Native.Nat.{_-_}
@@ -15,7 +16,7 @@ Inv-loop image count last₀ before₀ i₀ last before i = (count ≡ labelCoun
 abbrev μ-loop : tie.MeasureT-loop
 μ-loop image count last₀ before₀ i₀ last before i = count - i
 
--- the places of the code that a fact is taken from: after the test, and the loop
+-- the points of the code that facts are taken from: after the test, and the loop
 abbrev tested : tie.After-before3 Inv-loop μ-loop → tie.After-label-wrong Inv-loop μ-loop
 tested c = c .before .before .before
 

@@ -1,4 +1,4 @@
--- A label that is no scalar value is wrong; of one that is, the chain decides.
+-- A label that is not a scalar value is wrong; for a scalar value the chain decides.
 use borrow.Author.Needs.{needs}
 use Rattle.lxtr_check_labels.specs.Chains.{label-no-scalar, label-by-chain}
 use Rattle.lxtr_check_labels.proofs.label_wrong.Statement.{statement}

@@ -1,4 +1,4 @@
--- There is one exactly when the first is below the bound.
+-- Some label is wrong exactly when the first wrong one is at a place below the bound.
 use borrow.Author.Needs.{needs}
 use Rattle.lxtr_spec.specs.Refusals.{labelsWrong}
 use Rattle.lxtr_laws.specs.Firsts.{test-first}

@@ -1,5 +1,5 @@
--- Invariant: the label is listed before place i exactly when it is at the place of `entry` or before that in its chain. Each turn is
--- one of the laws of `Chains`.
+-- Invariant: the label is listed before place i exactly when it is at the place of `entry` or at an earlier place of its chain.
+-- Each turn is one of the laws of `Chains`.
 use borrow.Author.Needs.{needs}
 use mathlib.Core.Path.{_≡_}
 use Rattle.lxtr_spec.specs.Image.{labelAt}

@@ -1,4 +1,4 @@
--- The law `chained-next` says what the two stores make of the tables.
+-- The law `chained-next` says what the tables are after the two stores.
 use borrow.Author.Needs.{needs}
 use Rattle.lxtr_check_labels.specs.Chains.{chain-there, place-there, chained-next}
 use Rattle.lxtr_check_labels.proofs.put_last.Statement.{statement}

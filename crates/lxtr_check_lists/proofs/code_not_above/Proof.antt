@@ -1,4 +1,4 @@
--- The first entry has none before it; of any other the two codes are compared.
+-- The first entry has none before it; for any other entry the two codes are compared.
 use borrow.Author.Needs.{needs}
 use Rattle.lxtr_check_lists.specs.ListTests.{code-first, code-later}
 use Rattle.lxtr_check_lists.proofs.code_not_above.Statement.{statement}

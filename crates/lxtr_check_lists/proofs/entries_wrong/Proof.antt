@@ -1,4 +1,4 @@
--- There is one exactly when the first is below the bound.
+-- Some entry is wrong exactly when the first wrong one is below the width of the list.
 use borrow.Author.Needs.{needs}
 use Rattle.lxtr_spec.specs.Refusals.{entriesWrong}
 use Rattle.lxtr_laws.specs.Firsts.{test-first}

@@ -1,4 +1,4 @@
--- An entry that is no slot is a fault; of one that is a slot the other tests follow.
+-- An entry that is not a slot is a fault; for a slot the other tests follow.
 use borrow.Author.Needs.{needs}
 use Rattle.lxtr_check_lists.specs.ListTests.{entry-past, entry-tested}
 use Rattle.lxtr_check_lists.proofs.entry_wrong.Statement.{statement}

@@ -1,4 +1,4 @@
--- Invariant: no offset before this one falls. One that does, is the answer.
+-- Invariant: no offset before this one falls. The first that does is the answer.
 use borrow.Author.Needs.{needs}
 use mathlib.Core.Path.{_≡_}
 use Prim.Native.Nat.{_-_}

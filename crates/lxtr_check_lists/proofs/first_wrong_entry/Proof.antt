@@ -1,4 +1,4 @@
--- Invariant: no entry before this one is wrong. One that is, is the answer.
+-- Invariant: no entry before this one is wrong. The first that is wrong is the answer.
 use borrow.Author.Needs.{needs}
 use mathlib.Core.Path.{_≡_}
 use Prim.Native.Nat.{_-_}

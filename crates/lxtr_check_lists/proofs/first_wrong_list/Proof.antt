@@ -1,4 +1,4 @@
--- Invariant: no list before this one has a wrong entry. One that does, is the answer.
+-- Invariant: no list before this one has a wrong entry. The first that has one is the answer.
 use borrow.Author.Needs.{needs}
 use mathlib.Core.Path.{_≡_}
 use Prim.Native.Nat.{_-_}

@@ -1,4 +1,4 @@
--- Falling offsets are a fault; where they do not fall the other tests follow.
+-- Falling offsets are a fault; if no offset falls, the other tests follow.
 use borrow.Author.Needs.{needs}
 use Rattle.lxtr_check_lists.specs.ListTests.{lists-fall, lists-tested}
 use Rattle.lxtr_laws.specs.Tests.{outcome}

@@ -1,4 +1,4 @@
--- There is one exactly when the first is below the bound.
+-- Some list has a wrong entry exactly when the first that has one is below the bound.
 use borrow.Author.Needs.{needs}
 use Rattle.lxtr_laws.specs.Firsts.{test-first}
 use Rattle.lxtr_check_lists.proofs.some_entries_wrong.Statement.{statement}

@@ -1,4 +1,4 @@
--- Invariant: the steps that are left lead from slot `at` to where all of them do from slot s.
+-- Invariant: the steps that are left lead from slot `at` to the slot that all steps lead to from slot s.
 use borrow.Author.Needs.{needs}
 use Rattle.lxtr_check_reach.specs.WaysUp.{Ascending, ascend-start, ascend-next, ascend-end}
 use Rattle.lxtr_check_reach.proofs.ancestor.Statement.{statement}

@@ -1,4 +1,4 @@
--- Invariant: no slot before this one is unreachable. One that is, is the answer.
+-- Invariant: no slot before this one is unreachable. The first that is unreachable is the answer.
 use borrow.Author.Needs.{needs}
 use mathlib.Core.Path.{_≡_}
 use Prim.Native.Nat.{_-_}

@@ -1,4 +1,4 @@
--- There is one exactly when the first is below the bound.
+-- Some slot is unreachable exactly when the first that is unreachable is below the bound.
 use borrow.Author.Needs.{needs}
 use Rattle.lxtr_spec.specs.Refusals.{someUnreachable}
 use Rattle.lxtr_laws.specs.Firsts.{test-first}

@@ -1,4 +1,5 @@
--- Invariant: the steps that are left lead from slot `at` to where all of them do from slot s. If that is slot 0, slot 1 was passed.
+-- Invariant: the steps that are left lead from slot `at` to the slot that all steps lead to from slot s. A used slot from 2 up
+-- comes to slot 0 only through slot 1, and any other slot comes there at once.
 use borrow.Author.Needs.{needs}
 use Prim.Native.Nat.{suc}
 use Rattle.lxtr_spec.specs.Labels.{maxLabels, lengthCount}

@@ -1,4 +1,4 @@
--- A parent that is no slot is a fault; of one that is a slot the other tests follow.
+-- A parent that is not a slot is a fault; if the parent is a slot, the other tests follow.
 use borrow.Author.Needs.{needs}
 use Rattle.lxtr_check_slots.specs.SlotTests.{parent-past, parent-tested}
 use Rattle.lxtr_check_slots.proofs.used_slot_wrong.Statement.{statement}

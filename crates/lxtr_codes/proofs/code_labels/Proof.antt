@@ -1,4 +1,4 @@
--- What each pass leaves is what the next one asks for; what they leave together are the tables of the code map.
+-- What each pass leaves is what the next one requires; together they leave the tables of the code map.
 use borrow.Author.Needs.{needs}
 use mathlib.Core.Path.{refl, sym}
 use lib.Seq.{length-take-le}

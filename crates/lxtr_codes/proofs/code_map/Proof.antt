@@ -1,4 +1,4 @@
--- Too many labels are seen as they are gathered; otherwise the gathered ones get their codes.
+-- Too many labels are noticed while they are gathered; otherwise the gathered labels get their codes.
 use borrow.Author.Needs.{needs}
 use mathlib.Core.Path.{sym}
 use lib.Seq.{length-take-le}

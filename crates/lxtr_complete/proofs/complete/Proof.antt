@@ -1,4 +1,4 @@
--- A refusal and the room as it was, or the listing of the pairs.
+-- A refusal leaves the room as it was; otherwise the pairs are listed.
 use borrow.Author.Needs.{needs}
 use Rattle.lxtr_spec.specs.Completions.{completionAnswer}
 use Rattle.lxtr_complete.specs.Completing.{completion-refused, completion-accepted, completion-room, completion-passed}

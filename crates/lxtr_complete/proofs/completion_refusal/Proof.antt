@@ -1,4 +1,4 @@
--- Each refusal stands if those before it are not there.
+-- Each refusal is the answer if none before it holds.
 use borrow.Author.Needs.{needs}
 use Rattle.lxtr_laws.specs.SearchReturns.{search-passed}
 use Rattle.lxtr_complete.specs.Completing.{search-stands, body-stands, room-refused, completion-allowed}

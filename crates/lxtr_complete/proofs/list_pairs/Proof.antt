@@ -1,4 +1,4 @@
--- No pairs where the walk reaches no slot, otherwise those below the slot.
+-- No pairs if the walk reaches no slot; otherwise the pairs below the slot.
 use borrow.Author.Needs.{needs}
 use Rattle.lxtr_laws.specs.ListEntries.{accepted-passed}
 use Rattle.lxtr_laws.specs.Walking.{within-allowed, within-below}

@@ -1,4 +1,4 @@
--- The path has a place for each label of the query and one more; the listing of its front is that of the query.
+-- The path has a place for each label of the query and one more. The labels at its front are those of the query.
 use borrow.Author.Needs.{needs}
 use native.Mathlib.Omega.{arith}
 use Rattle.lxtr_spec.specs.Labels.{maxLabels}

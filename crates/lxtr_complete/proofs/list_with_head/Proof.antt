@@ -1,4 +1,4 @@
--- The lister's answer, and then version and count before its records. The count fits, since an accepted image has few pairs.
+-- The records come first, then version and count are written before them. The count fits, since an accepted image has few pairs.
 use borrow.Author.Needs.{needs}
 use Rattle.lxtr_spec.specs.Completions.{completionAnswer}
 use Rattle.lxtr_complete.specs.Completing.{count-fits, written-all}

@@ -1,4 +1,4 @@
--- The test of the case that the fault is.
+-- Each return is the test for its kind of fault.
 use borrow.Author.Needs.{needs}
 use Rattle.lxtr_command_spec.specs.Drawings.{isWrongSlot}
 use Rattle.lxtr_draw.specs.DrawnLines.{slot-case}

@@ -1,4 +1,4 @@
--- Invariant: the place is not behind the slot that is looked for. It is that slot where its list ends behind the entry.
+-- Invariant: slot p is not after the slot that is looked for. It is that slot if its list ends after the entry.
 use borrow.Author.Needs.{needs}
 use Prim.Native.Nat.{_-_, _≤_}
 use Rattle.lxtr_command_spec.specs.Drawings.{listOf}

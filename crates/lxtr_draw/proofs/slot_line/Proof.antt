@@ -1,4 +1,4 @@
--- The form is that of the definition, for an end and for any other slot.
+-- The form is that of the definition, one for an end and one for any other slot.
 use borrow.Author.Needs.{needs}
 use Rattle.lxtr_command_spec.specs.Commands.{asciiFrom, ascii}
 use Rattle.lxtr_draw.specs.DrawnLines.{end-line, inner-line}

@@ -1,4 +1,4 @@
--- The form is that of the definition, by the code.
+-- The form is that of the definition, depending on the code.
 use borrow.Author.Needs.{needs}
 use Rattle.lxtr_command_spec.specs.Commands.{asciiFrom, ascii}
 use Rattle.lxtr_draw.specs.DrawnLines.{end-step, listed-step, unlisted-step}

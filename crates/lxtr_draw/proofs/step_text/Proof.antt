@@ -1,4 +1,4 @@
--- Nothing or the step's line, by the parent.
+-- Nothing or the step's line, depending on the parent.
 use borrow.Author.Needs.{needs}
 use Rattle.lxtr_draw.specs.DrawnLines.{no-parent, parent-outside, step-put}
 use Rattle.lxtr_draw.proofs.step_text.Statement.{statement}

@@ -1,4 +1,4 @@
--- The place goes with the refusal; from 9 on the header is passed, and beyond 10 the slots are.
+-- The refusal decides which place is asked for. From refusal 9 up the header has passed, and after 10 the slots are right.
 use borrow.Author.Needs.{needs}
 use Rattle.lxtr_fault.specs.FaultTests.{fault-nowhere, fault-label, fault-slot, fault-list, fault-reach, passed-from, whole-from, slots-from}
 use Rattle.lxtr_fault.proofs.fault.Statement.{statement}

@@ -1,4 +1,4 @@
--- Bytes are below 256, so two numbers of four bytes are equal exactly where all their bytes are.
+-- Bytes are below 256, so two numbers of four bytes are equal exactly when all their bytes are.
 use borrow.Author.Needs.{needs}
 use Rattle.lxtr_header.specs.Bytes.{magic-number}
 use Rattle.lxtr_header.proofs.four_differ.Statement.{statement}

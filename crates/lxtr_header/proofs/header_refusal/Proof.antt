@@ -1,4 +1,4 @@
--- Each return is a chain of faults that are not there, ended by one that is; after refusal 5 the sizes are known.
+-- Each return is a chain of faults that are not there, ended by one that is or by none; after refusal 5 the sizes are known.
 use borrow.Author.Needs.{needs}
 use native.Mathlib.Omega.{arith}
 use borrow.Author.Tests.{lt-ltb, le-ltb}

@@ -1,4 +1,4 @@
--- The tests are those of the rule; a map below 5 bytes is not read.
+-- The tests are those of the rule; a map of fewer than 5 bytes is not read.
 use borrow.Author.Needs.{needs}
 use borrow.Author.Tests.{lt-ltb, le-ltb}
 use Rattle.lxtr_spec.specs.Refusals.{mapWrong}

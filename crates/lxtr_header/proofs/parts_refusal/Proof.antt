@@ -1,4 +1,5 @@
--- Each return is a chain of faults that are not there, ended by one that is; what the tests so far leave known is what the next one reads.
+-- Each return is a chain of faults that are not there, ended by one that is or by none. What the tests so far establish is what
+-- the next one reads.
 use borrow.Author.Needs.{needs}
 use Rattle.lxtr_laws.specs.RefusalChains.{chain}
 use Rattle.lxtr_laws.specs.Passed.{whole-by}

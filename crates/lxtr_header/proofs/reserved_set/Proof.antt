@@ -1,4 +1,4 @@
--- A number is 0, or equal to its lowest byte, exactly where its bytes, or the other three, are 0.
+-- A number is 0 exactly when its bytes are 0, and equal to its lowest byte exactly when the other three are 0.
 use borrow.Author.Needs.{needs}
 use Rattle.lxtr_header.specs.Bytes.{reserved-numbers}
 use Rattle.lxtr_header.proofs.reserved_set.Statement.{statement}

@@ -1,4 +1,4 @@
--- The tests are those of the rule; the difference N - 2 is taken where N is 2 or more.
+-- The tests are those of the rule; the difference N - 2 is taken only if N is 2 or more.
 use borrow.Author.Needs.{needs}
 use borrow.Author.Tests.{lt-ltb, le-ltb}
 use Rattle.lxtr_spec.specs.Refusals.{sizesWrong}

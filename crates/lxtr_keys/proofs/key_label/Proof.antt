@@ -1,4 +1,4 @@
--- The labels begin behind the length byte, four bytes each.
+-- The labels begin after the length byte, four bytes each.
 use borrow.Author.Needs.{needs}
 use Rattle.lxtr_spec.specs.KeyLists.{keyLabel}
 use Rattle.lxtr_keys.proofs.key_label.Statement.{statement}

@@ -1,4 +1,4 @@
--- Each return is one of the laws of `KeyRefusals`: a list too short, of another version, of too many keys, or as its keys decide.
+-- Each return is one of the laws of `KeyRefusals`: the list is too short, has another version or too many keys, or its keys decide.
 use borrow.Author.Needs.{needs}
 use Rattle.lxtr_keys.specs.KeyRefusals.{list-short, list-version, list-many, list-keys}
 use Rattle.lxtr_keys.proofs.list_refusal.Statement.{statement}

@@ -1,4 +1,4 @@
--- A length byte is below 256, so the place behind the key is a number of 64 bits.
+-- A length byte is below 256, so the place after the key is a number of 64 bits.
 use borrow.Author.Needs.{needs}
 use native.Mathlib.Omega.{arith}
 use Rattle.lxtr_spec.specs.KeyLists.{keyLength, nextKey}

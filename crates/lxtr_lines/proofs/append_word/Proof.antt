@@ -1,4 +1,4 @@
--- The loop keeps which bytes of the word are still to come.
+-- Invariant: which bytes of the word are still to come.
 use borrow.Author.Needs.{needs}
 use Prim.Native.Nat.{_-_}
 use native.Mathlib.Omega.{arith}

@@ -1,4 +1,4 @@
--- One behind the other.
+-- The words are appended one after the other.
 use borrow.Author.Needs.{needs}
 use Rattle.lxtr_lines.specs.KeyLines.{words-put}
 use Rattle.lxtr_lines.proofs.joined.Statement.{statement}

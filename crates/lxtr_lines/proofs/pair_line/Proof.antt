@@ -1,4 +1,4 @@
--- One behind the other.
+-- The parts are appended one after the other.
 use borrow.Author.Needs.{needs}
 use Rattle.lxtr_lines.specs.KeyLines.{pair-put}
 use Rattle.lxtr_lines.proofs.pair_line.Statement.{statement}

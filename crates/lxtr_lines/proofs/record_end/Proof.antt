@@ -1,4 +1,4 @@
--- The key of a record that lies whole starts in the listing.
+-- The key of a record that lies wholly in the listing starts in the listing.
 use native.Mathlib.Omega.{arith}
 use mathlib.Core.Path.{ap}
 use Prim.Native.Nat.{ℕ, _+_}

@@ -1,4 +1,4 @@
--- The labels stand between the length byte and the value.
+-- The labels are between the length byte and the value.
 use native.Mathlib.Omega.{arith}
 use Rattle.lxtr_lines.specs.Records.{record-starts, labels-start, labels-inside, labels-read}
 use Rattle.lxtr_lines.proofs.record_labels.Statement.{statement}

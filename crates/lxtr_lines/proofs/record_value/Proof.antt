@@ -1,4 +1,4 @@
--- The value stands behind the key.
+-- The value comes after the key.
 use Rattle.lxtr_lines.specs.Records.{record-starts, value-place, value-read}
 use Rattle.lxtr_lines.proofs.record_value.Statement.{statement}
 use Rattle.lxtr_lines.proofs.record_value.Tie as tie

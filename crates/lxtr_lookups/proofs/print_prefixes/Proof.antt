@@ -1,4 +1,4 @@
--- Each turn is below the count, so what is left up to it falls.
+-- Measure: the matches that are left; a turn is made only below the count.
 use borrow.Author.Needs.{needs}
 use Prim.Native.Nat.{_-_}
 use native.Mathlib.Omega.{arith}

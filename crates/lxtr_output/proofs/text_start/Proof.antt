@@ -1,4 +1,4 @@
--- The texts that are left to pass fall to none.
+-- Measure: the texts that are left to pass.
 use borrow.Author.Needs.{needs}
 use Rattle.lxtr_output.proofs.text_start.Statement.{statement}
 use Rattle.lxtr_output.proofs.text_start.Tie as tie

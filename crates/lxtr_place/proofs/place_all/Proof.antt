@@ -1,4 +1,4 @@
--- All keys are slot 1's group; on their labels the tables agree with the code map.
+-- All keys are slot 1's group; for their labels the tables agree with the code map.
 use borrow.Author.Needs.{needs}
 use Rattle.lxtr_spec.specs.Labels.{maxLabels}
 use Rattle.lxtr_place.specs.AllKeys.{starts-enough, all-called, all-placed}

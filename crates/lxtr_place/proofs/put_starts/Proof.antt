@@ -1,4 +1,4 @@
--- Of the first i keys the table has where they start.
+-- Invariant: the table says where the first i keys start.
 use borrow.Author.Needs.{needs}
 use Prim.Native.Nat.{_-_}
 use Rattle.lxtr_place.specs.AllKeys.{Starting, starting-start, starting-cast, starting-inside, starting-starts, starting-turn, starting-size, starting-end}

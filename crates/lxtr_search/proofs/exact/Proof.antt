@@ -1,4 +1,4 @@
--- A refusal alone, or the value and no refusal.
+-- A refusal and no value, or the value and no refusal.
 use borrow.Author.Needs.{needs}
 use Rattle.lxtr_laws.specs.SearchReturns.{search-passed, exact-refused, exact-passed}
 use Rattle.lxtr_search.proofs.exact.Statement.{statement}

@@ -1,4 +1,4 @@
--- The value where the walk ends, if it reaches a slot.
+-- The value at the slot where the walk ends, if it reaches one.
 use borrow.Author.Needs.{needs}
 use Rattle.lxtr_laws.specs.Walking.{within-below}
 use Rattle.lxtr_laws.specs.SearchReturns.{exact-nowhere, exact-reached}

@@ -1,4 +1,4 @@
--- The two records have the same fields.
+-- The two answers have the same fields.
 use mathlib.Core.Path.{refl}
 use Rattle.lxtr_spec.specs.Searches.{probeAnswer}
 use Rattle.lxtr_search.proofs.nothing_found.Statement.{statement}

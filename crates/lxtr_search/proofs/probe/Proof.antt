@@ -1,4 +1,4 @@
--- A refusal alone; none and no where the walk fails; otherwise what is found at its slot.
+-- A refusal, or a walk that fails, gives neither a value nor longer keys; otherwise the answer is what the slot reached has.
 use borrow.Author.Needs.{needs}
 use Rattle.lxtr_laws.specs.Walking.{within-below}
 use Rattle.lxtr_laws.specs.SearchReturns.{search-passed, probe-refused, probe-nowhere, probe-reached}

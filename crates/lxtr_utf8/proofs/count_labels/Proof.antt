@@ -1,4 +1,4 @@
--- Invariant: the labels counted and those of what is left of the text are all of them.
+-- Invariant: the labels counted, and those of the rest of the text, are all of them.
 use Prim.Native.Nat.{_-_}
 use borrow.Author.Needs.{needs}
 use native.Mathlib.Omega.{arith}

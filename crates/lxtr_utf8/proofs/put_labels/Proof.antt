@@ -1,4 +1,4 @@
--- Invariant: the first i labels are in the room, and what is left of the text has the others.
+-- Invariant: the first i labels are in the room, and the rest of the text has the others.
 use Prim.Native.Nat.{_-_}
 use borrow.Author.Needs.{needs}
 use native.Mathlib.Omega.{arith}
@@ -15,7 +15,7 @@ Inv-loop text room₀ at₀ i₀ room at i = LabelsPut text room₀ at i room
 abbrev μ-loop : tie.MeasureT-loop
 μ-loop text room₀ at₀ i₀ room at i = length text - at
 
--- the places of the code that facts are taken from: after the character is read, and the loop
+-- the points of the code that facts are taken from: after the character is read, and the loop
 abbrev read : tie.After-struct-known Inv-loop μ-loop → tie.After-first-character Inv-loop μ-loop
 read c = c .before .before .before .before .before
 

@@ -1,4 +1,4 @@
--- A refusal of the header stands; otherwise 13 or none.
+-- A refusal of the header is the answer; otherwise 13 or none.
 use borrow.Author.Needs.{needs}
 use Rattle.lxtr_laws.specs.SearchReturns.{header-stands, query-refused, search-allowed}
 use Rattle.lxtr_walk.proofs.search_refusal.Statement.{statement}

@@ -1,4 +1,4 @@
--- None beyond the limit, and otherwise the walk.
+-- Nothing beyond the limit; otherwise the walk.
 use borrow.Author.Needs.{needs}
 use Rattle.lxtr_spec.specs.Labels.{maxLabels}
 use Rattle.lxtr_laws.specs.Walking.{walk-too-long, walk-allowed}

@@ -1,4 +1,4 @@
--- Too many words are seen as they are gathered; otherwise the filled part of the table has them all.
+-- Too many words are noticed while they are gathered; otherwise the filled part of the table has them all.
 use borrow.Author.Needs.{needs}
 use mathlib.Core.Path.{sym}
 use lib.Seq.{length-take-le}

@@ -1,4 +1,4 @@
--- The order gives a place of the table, where the label is.
+-- The order gives a place of the table, and the label is there.
 use borrow.Author.Needs.{needs}
 use Rattle.lxtr_write.specs.SectionWriting.{place-fits, place-scaled, place-inside, label-listed}
 use Rattle.lxtr_write.proofs.listed_label.Statement.{statement}

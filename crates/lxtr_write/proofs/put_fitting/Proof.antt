@@ -1,4 +1,4 @@
--- The size is the length of the image: too much for the output, or the image is written.
+-- The size is the length of the image: the image does not fit, or it is written.
 use borrow.Author.Needs.{needs}
 use native.Mathlib.Omega.{arith}
 use Rattle.lxtr_write.specs.SectionWriting.{image-length}

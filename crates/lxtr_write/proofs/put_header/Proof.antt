@@ -1,4 +1,4 @@
--- `LXTR` and five numbers, each behind what is written before it.
+-- `LXTR` and five numbers, each after what is written before it.
 use borrow.Author.Needs.{needs}
 use Rattle.lxtr_write.specs.SectionWriting.{header-put}
 use Rattle.lxtr_write.proofs.put_header.Statement.{statement}

@@ -1,4 +1,4 @@
--- Invariant: the first j labels are written. Each turn lays one more behind them.
+-- Invariant: the first j labels are written. Each turn lays one more after them.
 use borrow.Author.Needs.{needs}
 use Prim.Native.Nat.{_-_, _≤_}
 use mathlib.Core.Path.{_≡_}

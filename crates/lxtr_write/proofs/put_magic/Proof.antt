@@ -1,4 +1,4 @@
--- Four stores, one behind the other, lay the four bytes over the output.
+-- Four stores, one after the other, lay the four bytes over the output.
 use borrow.Author.Needs.{needs}
 use native.Mathlib.Omega.{arith}
 use lib.ListN.{length-set}

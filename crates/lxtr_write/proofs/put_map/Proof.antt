@@ -1,4 +1,4 @@
--- Version and count, and the labels behind them.
+-- Version and count, and the labels after them.
 use borrow.Author.Needs.{needs}
 use Rattle.lxtr_write.specs.SectionWriting.{map-put}
 use Rattle.lxtr_write.proofs.put_map.Statement.{statement}

@@ -1,4 +1,4 @@
--- Each section is written behind the one before it.
+-- Each section is written after the one before it.
 use borrow.Author.Needs.{needs}
 use native.Mathlib.Omega.{arith}
 use Rattle.lxtr_write.specs.SectionWriting.{image-put}

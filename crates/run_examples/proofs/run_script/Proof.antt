@@ -1,4 +1,4 @@
--- The turns that are left fall to none.
+-- Measure: the turns that are left.
 use borrow.Author.Needs.{needs}
 use Rattle.run_examples.proofs.run_script.Statement.{statement}
 use Rattle.run_examples.proofs.run_script.Tie as tie

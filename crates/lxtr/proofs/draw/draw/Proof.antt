@@ -1,4 +1,4 @@
--- Slots and lists are read only where the header refuses nothing.
+-- Slots and lists are read only if the header is not refused.
 use borrow.Author.Needs.{needs}
 use Rattle.lxtr.specs.Parts.{passed}
 use Rattle.lxtr.proofs.draw.draw.Statement.{statement}

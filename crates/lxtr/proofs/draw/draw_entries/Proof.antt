@@ -1,4 +1,4 @@
--- The loop goes up to the number of children. The slot is not behind that of the entry that comes next.
+-- Invariant: slot p is not after the slot in whose list entry j lies. Measure: the entries that are left.
 use borrow.Author.Needs.{needs}
 use Prim.Native.Nat.{_-_, _≤_}
 use mathlib.Core.Path.{_≡_}

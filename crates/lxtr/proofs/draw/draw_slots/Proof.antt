@@ -1,4 +1,4 @@
--- The loop goes up to the number of slots.
+-- Measure: the slots that are left.
 use borrow.Author.Needs.{needs}
 use Prim.Native.Nat.{_-_}
 use mathlib.Core.Path.{_≡_}

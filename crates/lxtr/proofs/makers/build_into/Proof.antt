@@ -1,4 +1,4 @@
--- The image that the builder announces lies in the output.
+-- The image whose length the builder answers lies within the output.
 use borrow.Author.Needs.{needs}
 use mathlib.Core.Path.{sym}
 use lib.Seq.{length-take-le}

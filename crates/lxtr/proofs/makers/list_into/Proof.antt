@@ -1,4 +1,4 @@
--- The key list that is announced lies in the output.
+-- The key list whose length is answered lies within the output.
 use borrow.Author.Needs.{needs}
 use Rattle.lxtr_words.specs.Listed.{list-cut, list-within}
 use Rattle.lxtr.proofs.makers.list_into.Statement.{statement}

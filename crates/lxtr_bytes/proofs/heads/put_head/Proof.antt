@@ -1,4 +1,4 @@
--- One store, and the count behind it.
+-- One store for the version, and the count after it.
 use borrow.Author.Needs.{needs}
 use mathlib.Core.Path.{_∙_}
 use native.Mathlib.Omega.{arith}

@@ -1,4 +1,4 @@
--- The bytes of label i lie at 4 * i, within the query.
+-- The bytes of label i start at 4 * i and lie within the query.
 use native.Mathlib.Omega.{arith}
 use Rattle.lxtr_laws.specs.QueryLabels.{label-within, label-read}
 use Rattle.lxtr_bytes.proofs.labels.label_at.Statement.{statement}

@@ -1,4 +1,4 @@
--- Invariant: the counts of the labels among the first j of the key went up by one.
+-- Invariant: the counts of the labels among the first j of the key are one higher than before.
 use borrow.Author.Needs.{needs}
 use Prim.Native.Nat.{_-_}
 use lib.ListN.{take}

@@ -1,4 +1,4 @@
--- Invariant: what is counted, with the frequency in the keys that are left, is the frequency in all keys.
+-- Invariant: each count, plus the label's frequency in the keys that are left, is its frequency in all keys.
 use borrow.Author.Needs.{needs}
 use Prim.Native.Nat.{_-_}
 use mathlib.Core.Path.{_≡_}

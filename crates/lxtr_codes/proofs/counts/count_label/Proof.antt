@@ -1,4 +1,4 @@
--- A label that the key has counted is left; the count of another goes up by one, and stays small.
+-- A label that the key has already counted is left out; the count of any other goes up by one, and stays small.
 use borrow.Author.Needs.{needs}
 use Rattle.lxtr_codes.specs.LabelCounting.{count-again, count-fits, count-new}
 use Rattle.lxtr_codes.proofs.counts.count_label.Statement.{statement}

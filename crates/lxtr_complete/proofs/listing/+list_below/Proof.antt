@@ -1,5 +1,5 @@
--- The one proof of the cycle of calls {list_below}. The measure is how many labels are still allowed.
--- The loop over the entries keeps `ListedSoFar`: what is left to do from the state that it is in makes the whole.
+-- The one proof of the cycle of calls {list_below}. Measure: the number of labels that are still allowed.
+-- Invariant of the loop over the entries: `ListedSoFar`. What is left to do, done from the present state, gives the whole.
 use Prim.Native.Nat.{ℕ, _-_, _<_}
 use native.Mathlib.Omega.{arith}
 use borrow.Author.Needs.{needs}
@@ -29,7 +29,7 @@ at t = and 4 list-below-kinds.ps (is 4 list-below-kinds.ps μ-list-below t) list
 abbrev below : ℕ → In 4 list-below-kinds.ps
 below t = and 4 list-below-kinds.ps (falls 4 list-below-kinds.ps _<_ μ-list-below t) list-below.Pre
 
--- what the callees ask and say
+-- what the callees require and ensure
 abbrev told : ℕ → lts.Claims
 told t =
     (base-of-reads.Asked, base-of-reads.Learnt, offset-at-reads.Asked, offset-at-reads.Learnt, ends-of-reads.Asked, ends-of-reads.Learnt, list-end-reads.Asked, list-end-reads.Learnt, entry-at-reads.Asked, entry-at-reads.Learnt, below t, list-below.Post)
@@ -41,7 +41,7 @@ Inv image left n path₀ room₀ at count₀ len base end ends j₀ here₀ path
 abbrev μ : lts.MeasureT-loop
 μ image left n path₀ room₀ at count₀ len base end ends j₀ here₀ path room count j here = end - j
 
--- The places of the code that facts are taken from, and the way from each to the one before it.
+-- The points of the code that facts are taken from, and the way from each back to the one before it.
 module _ (t : ℕ) where
   abbrev Entry : Type 0
   Entry = lts.Start (told t) (at t) list-below.Post Inv μ
@@ -79,7 +79,7 @@ module _ (t : ℕ) where
   abbrev gone : lts.After-slice-known3 (told t) (at t) list-below.Post Inv μ → Loop
   gone c = loop (chosen (c .before .before .before))
 
-  -- where the loop starts from
+  -- from the loop back to the entry
   abbrev start : Loop → Entry
   start l = entry (some (read l))
 

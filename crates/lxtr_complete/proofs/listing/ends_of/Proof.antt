@@ -1,4 +1,4 @@
--- The first entry is an end if its code is 0; those behind it have higher codes. Without the flag there is no end.
+-- The first entry is an end if its code is 0; the entries after it have higher codes. Without the flag there is no end.
 use borrow.Author.Needs.{needs}
 use Rattle.lxtr_laws.specs.ListEntries.{accepted-whole}
 use Rattle.lxtr_complete.specs.Listing.{no-flag, no-list, first-listed, no-end, one-end}

@@ -1,4 +1,4 @@
--- The code of the child is that of a listed label: the contract asks it.
+-- The contract requires that the code of the child is the code of a listed label.
 use borrow.Author.Needs.{needs}
 use Rattle.lxtr_complete.specs.Listing.{inner-entry, entry-code, entry-label}
 use Rattle.lxtr_complete.proofs.listing.entry_at.Statement.{statement}

@@ -1,4 +1,4 @@
--- The end is the first entry; its value goes behind the labels, and the record is put.
+-- The end is the first entry. Its value is stored after the labels, and the record is written.
 use borrow.Author.Needs.{needs}
 use Rattle.lxtr_spec.specs.Labels.{maxLabels}
 use Rattle.lxtr_laws.specs.ListEntries.{accepted-whole, place-below, child-below}

@@ -1,4 +1,4 @@
--- A record that does not fit stops the listing; one that fits is laid down.
+-- A record that does not fit stops the listing; one that fits is written.
 use borrow.Author.Needs.{needs}
 use mathlib.Core.Path.{_∙_}
 use native.Mathlib.Omega.{arith}

@@ -1,4 +1,4 @@
--- Invariant: the first i words are in the room. Each turn lays one more behind them.
+-- Invariant: the first i words are in the room. Each turn lays one more after them.
 use borrow.Author.Needs.{needs}
 use Prim.Native.Nat.{_-_, _≤_}
 use mathlib.Core.Path.{_≡_}

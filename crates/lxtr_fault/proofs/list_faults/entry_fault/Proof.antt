@@ -1,4 +1,4 @@
--- Where the list starts, and how many places into it the entry is.
+-- Where the list starts, plus how many places into it the entry is.
 use borrow.Author.Needs.{needs}
 use Rattle.lxtr_fault.specs.FaultTests.{entry-fits, entry-placed}
 use Rattle.lxtr_fault.proofs.list_faults.entry_fault.Statement.{statement}

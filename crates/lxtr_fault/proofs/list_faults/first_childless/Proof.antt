@@ -1,4 +1,4 @@
--- Invariant: no slot before this one lacks a child. One that does, is the answer.
+-- Invariant: no slot before this one lacks a child. The first that does is the answer.
 use borrow.Author.Needs.{needs}
 use mathlib.Core.Path.{_≡_}
 use Prim.Native.Nat.{_-_}

@@ -1,4 +1,4 @@
--- Invariant: no slot before this one is unlisted. One that is, is the answer.
+-- Invariant: no slot before this one is unlisted. The first that is unlisted is the answer.
 use borrow.Author.Needs.{needs}
 use mathlib.Core.Path.{_≡_}
 use Prim.Native.Nat.{_-_}

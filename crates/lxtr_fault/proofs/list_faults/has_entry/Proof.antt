@@ -1,4 +1,4 @@
--- Invariant: no entry before this one is slot s. One that is, is the answer.
+-- Invariant: no entry before this one is slot s. If one is, the answer is yes.
 use borrow.Author.Needs.{needs}
 use mathlib.Core.Path.{_≡_}
 use Prim.Native.Nat.{_-_}

@@ -1,4 +1,4 @@
--- Each part of rule 11 that does not hold gives its place; where none of the others does, it is slot 1.
+-- The first part of rule 11 that does not hold gives the place. If all other parts hold, the place is slot 1.
 use borrow.Author.Needs.{needs}
 use Rattle.lxtr_laws.specs.Firsts.{first-past}
 use Rattle.lxtr_fault.specs.FaultTests.{list-offset, list-entry, list-unlisted, list-childless, list-root}

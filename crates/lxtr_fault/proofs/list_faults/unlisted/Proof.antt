@@ -1,4 +1,4 @@
--- An unused slot is not looked for; a used one is in the list of its parent, which is a slot, or unlisted.
+-- An unused slot is not looked for. A used one has a parent, which is a slot; it is unlisted if the parent's list does not have it.
 use borrow.Author.Needs.{needs}
 use Rattle.lxtr_fault.specs.FaultTests.{unused-listed, parent-slot, listed-tested}
 use Rattle.lxtr_fault.proofs.list_faults.unlisted.Statement.{statement}

@@ -1,4 +1,4 @@
--- No base below the one that is tried fits.
+-- Invariant: no base below the one that is tried fits.
 use borrow.Author.Needs.{needs}
 use Prim.Native.Nat.{_-_}
 use Rattle.lxtr_spec.specs.Placing.{baseCount}

@@ -1,4 +1,4 @@
--- The slots of the first j codes are free.
+-- Invariant: the slots of the first j codes are free.
 use borrow.Author.Needs.{needs}
 use Prim.Native.Nat.{_-_}
 use lib.ListN.{length}

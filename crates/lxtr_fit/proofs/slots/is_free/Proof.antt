@@ -1,4 +1,4 @@
--- Outside the slots from 2 up the answer is no; inside, the check decides.
+-- Outside the slots from 2 up the answer is no; for those slots the check decides.
 use borrow.Author.Needs.{needs}
 use Rattle.lxtr_fit.specs.FreeSlots.{check-inside, free-outside, free-inside}
 use Rattle.lxtr_fit.proofs.slots.is_free.Statement.{statement}

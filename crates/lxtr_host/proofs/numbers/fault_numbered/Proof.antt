@@ -1,4 +1,4 @@
--- The number of the case that the fault is.
+-- Each return is the number for its kind of fault.
 use borrow.Author.Needs.{needs}
 use Rattle.lxtr_spec.specs.HostNumbers.{faultNumbered}
 use Rattle.lxtr_host.specs.Numbering.{fault-case}

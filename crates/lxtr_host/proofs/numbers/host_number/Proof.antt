@@ -1,4 +1,4 @@
--- Each mark adds at most what it stands for, so the sum fits; it is the definition's, whichever marks are set.
+-- Each mark adds at most what it stands for, so the sum fits. The sum is the definition's, whichever marks are set.
 use borrow.Author.Needs.{needs}
 use native.Mathlib.Omega.{arith}
 use Rattle.lxtr_laws.specs.Tallies.{one-at-most}

@@ -1,4 +1,4 @@
--- The number of the case that the value is.
+-- One number for a value, and one for none.
 use borrow.Author.Needs.{needs}
 use Rattle.lxtr_host.specs.Numbering.{value-number, none-number}
 use Rattle.lxtr_host.proofs.numbers.value_numbered.Statement.{statement}

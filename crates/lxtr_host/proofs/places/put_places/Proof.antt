@@ -1,4 +1,4 @@
--- Invariant: the words of the first i places are at the front. Of an odd number of words the last is a length.
+-- Invariant: the words of the first i places are at the front. If the number of words is odd, the last word is a length.
 use borrow.Author.Needs.{needs}
 use Prim.Native.Nat.{_*_, _/_, _-_, min}
 use mathlib.Core.Path.{_≡_}

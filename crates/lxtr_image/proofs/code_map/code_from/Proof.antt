@@ -1,4 +1,4 @@
--- Invariant: the code of the label is what the search of the places from i on gives. Each turn is one of the laws of `CodeSearch`.
+-- Invariant: the code of the label is what the search of the places from i up gives. Each turn is one of the laws of `CodeSearch`.
 use borrow.Author.Needs.{needs}
 use Prim.Native.Nat.{_≤_, _-_}
 use mathlib.Core.Path.{_≡_}

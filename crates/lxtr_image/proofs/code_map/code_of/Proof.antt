@@ -1,5 +1,5 @@
--- Invariant: the code of the label is what the search of the places from i on gives. A block whose sum is 0 is passed, and one match
--- is what the sum says; otherwise the search goes on place by place.
+-- Invariant: the code of the label is what the search of the places from i up gives. A block whose sum is 0 is passed; a sum of one
+-- match gives the place; otherwise the search continues place by place.
 use borrow.Author.Needs.{needs}
 use Prim.Native.Nat.{_≤_, _-_}
 use mathlib.Core.Path.{_≡_}

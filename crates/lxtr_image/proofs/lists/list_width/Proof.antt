@@ -1,4 +1,4 @@
--- The difference of two offsets, which is 0 where they fall.
+-- The difference of two offsets, which is 0 if they fall.
 use borrow.Author.Needs.{needs}
 use Rattle.lxtr_spec.specs.Image.{listWidth}
 use Rattle.lxtr_image.proofs.lists.list_width.Statement.{statement}

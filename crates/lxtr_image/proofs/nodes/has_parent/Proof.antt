@@ -1,4 +1,4 @@
--- A slot that is not there has no parent; of one that is there the parent is compared.
+-- A slot that does not exist has no parent; if it exists, its parent is compared.
 use borrow.Author.Needs.{needs}
 use Rattle.lxtr_laws.specs.Stepping.{parent-outside, parent-inside}
 use Rattle.lxtr_image.proofs.nodes.has_parent.Statement.{statement}

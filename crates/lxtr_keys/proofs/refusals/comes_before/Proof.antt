@@ -1,4 +1,4 @@
--- Invariant: the first labels of both keys are the same, so that what comes after them decides.
+-- Invariant: the first labels of both keys are the same, so what comes after them decides.
 use borrow.Author.Needs.{needs}
 use Prim.Native.Nat.{_-_}
 use Rattle.lxtr_build_laws.specs.KeyReading.{label-inside}

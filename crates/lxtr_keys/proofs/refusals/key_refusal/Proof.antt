@@ -1,4 +1,4 @@
--- Each return is one of the laws of `KeyRefusals`. What the first three tests leave known is that the key lies whole in the list.
+-- Each return is one of the laws of `KeyRefusals`. After the first three tests the key is known to lie wholly in the list.
 use borrow.Author.Needs.{needs}
 use Rattle.lxtr_spec.specs.Labels.{maxLabels}
 use Rattle.lxtr_keys.specs.KeyRefusals.{no-length, too-long, cut-short, whole-key, no-scalar, out-of-order, key-right}

@@ -1,4 +1,4 @@
--- Invariant: no key before this one is refused, so that the rest of the list decides.
+-- Invariant: no key before this one is refused, so the rest of the list decides.
 use borrow.Author.Needs.{needs}
 use Prim.Native.Nat.{_-_}
 use Rattle.lxtr_keys.specs.KeyRefusals.{RestDecides, keys-start, key-refused, key-there, keys-next, left-over, keys-right}

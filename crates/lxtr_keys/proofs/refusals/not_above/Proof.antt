@@ -1,4 +1,4 @@
--- Key 0 has no key before it; from key 1 on there is one to compare with.
+-- Key 0 has no key before it; every later key is compared with the one before it.
 use borrow.Author.Needs.{needs}
 use Rattle.lxtr_keys.specs.KeyRefusals.{first-above, before-whole, later-above}
 use Rattle.lxtr_keys.proofs.refusals.not_above.Statement.{statement}

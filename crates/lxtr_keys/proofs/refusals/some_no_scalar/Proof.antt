@@ -1,4 +1,4 @@
--- Invariant: no label before this one is no scalar value. One that is, is the answer.
+-- Invariant: every label before this one is a scalar value. If one is not, the answer is yes.
 use borrow.Author.Needs.{needs}
 use mathlib.Core.Path.{_≡_}
 use Prim.Native.Nat.{_-_}

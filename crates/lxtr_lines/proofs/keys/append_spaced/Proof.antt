@@ -1,4 +1,4 @@
--- No label, or the first one and those behind it.
+-- No label, or the first one and those after it.
 use borrow.Author.Needs.{needs}
 use native.Mathlib.Omega.{arith}
 use Rattle.lxtr_lines.specs.KeyLines.{no-labels, some-labels}

@@ -1,4 +1,4 @@
--- The loop keeps which labels are still to come.
+-- Invariant: which labels are still to come.
 use borrow.Author.Needs.{needs}
 use Prim.Native.Nat.{_-_}
 use native.Mathlib.Omega.{arith}

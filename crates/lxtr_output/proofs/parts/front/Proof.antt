@@ -1,4 +1,4 @@
--- The first n bytes of a slice that has more are n bytes.
+-- The front of n bytes of a longer slice has n bytes.
 use borrow.Author.Needs.{needs}
 use mathlib.Core.Path.{sym}
 use native.Mathlib.Omega.{arith}

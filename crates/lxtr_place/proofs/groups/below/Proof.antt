@@ -1,4 +1,4 @@
--- From the first key that is not under x on, the run of those that go on by x is all of them.
+-- Starting at the first key that is not under x, the run of keys that continue with x has all keys that do.
 use borrow.Author.Needs.{needs}
 use native.Mathlib.Omega.{arith}
 use Rattle.lxtr_laws.specs.Limit.{length-fits-byte}

@@ -1,4 +1,4 @@
--- A key that is used up goes on by no label; another by its next one.
+-- A key that is used up continues with no label; any other with its next one.
 use borrow.Author.Needs.{needs}
 use Rattle.lxtr_build_laws.specs.KeyReading.{label-inside}
 use Rattle.lxtr_place.specs.GroupLoops.{goes-end, goes-on}

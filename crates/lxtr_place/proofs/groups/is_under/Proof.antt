@@ -1,4 +1,4 @@
--- A key that is used up is under x; another goes by its next label.
+-- A key that is used up is under x; for any other its next label decides.
 use borrow.Author.Needs.{needs}
 use Rattle.lxtr_build_laws.specs.KeyReading.{label-inside}
 use Rattle.lxtr_place.specs.GroupLoops.{under-end, under-on}

@@ -1,4 +1,4 @@
--- The first i keys go on by x; the run of the others makes the whole.
+-- Invariant: the first i keys continue with x; the run of the others completes the whole.
 use borrow.Author.Needs.{needs}
 use Prim.Native.Nat.{_-_}
 use Rattle.lxtr_build_laws.specs.KeyReading.{whole-here, key-starts}

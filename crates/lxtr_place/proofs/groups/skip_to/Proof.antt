@@ -1,4 +1,4 @@
--- No key before the low-th goes on by x; the keys from the high-th on are not under x.
+-- Invariant: no key before the low-th continues with x; the high-th key, if there is one, is not under x.
 use borrow.Author.Needs.{needs}
 use Prim.Native.Nat.{_-_}
 use mathlib.Core.Path.{refl}

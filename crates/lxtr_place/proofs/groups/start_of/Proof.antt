@@ -1,4 +1,4 @@
--- The table has where each key of the group starts.
+-- The table says where each key of the group starts.
 use borrow.Author.Needs.{needs}
 use Rattle.lxtr_place.specs.GroupLoops.{start-sum, start-fits, start-inside, start-is}
 use Rattle.lxtr_place.proofs.groups.start_of.Statement.{statement}

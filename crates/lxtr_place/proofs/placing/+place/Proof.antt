@@ -1,5 +1,5 @@
--- The one proof of the cycle of calls {place}. The measure is how many labels are still allowed.
--- The loop over the codes keeps `Going`: what is left to be gone into makes the whole.
+-- The one proof of the cycle of calls {place}. Measure: the number of labels that are still allowed.
+-- Invariant of the loop over the codes: `Going`. Going into the children that are left completes the whole.
 use Prim.Native.Nat.{ℕ, _-_, _<_}
 use mathlib.Core.Path.{refl, ap, _∙_}
 use mathlib.Core.Logic.{⊎-elim}
@@ -32,7 +32,7 @@ at t = and 8 place-kinds.ps (is 8 place-kinds.ps μ-place t) place.Pre
 abbrev below : ℕ → In 8 place-kinds.ps
 below t = and 8 place-kinds.ps (falls 8 place-kinds.ps _<_ μ-place t) place.Pre
 
--- what the callees ask and say
+-- what the callees require and ensure
 abbrev told : ℕ → lts.Claims
 told t = (
   child-codes-reads.Asked,
@@ -54,9 +54,9 @@ Inv keys starts labels guesses codes order work₀ slots room₀ left p g count 
 abbrev μ : lts.MeasureT-loop
 μ keys starts labels guesses codes order work₀ slots room₀ left p g count base j₀ work room j = count - j
 
--- The places of the code that facts are taken from, and the way from each to an earlier one.
+-- The points of the code that facts are taken from, and the way from each back to an earlier one.
 module _ (t : ℕ) where
-  -- the entry, and what is known of each slice told
+  -- the entry, and the point at which something is known of each slice
   abbrev Entry : Type 0
   Entry = lts.Start (told t) (at t) place.Post Inv μ
 
@@ -86,7 +86,7 @@ module _ (t : ℕ) where
   abbrev Answered : Type 0
   Answered = lts.After-place (told t) (at t) place.Post Inv μ
 
-  -- one place for each of the eight slices
+  -- one step back for each of the eight slices
   abbrev entry : Told → Entry
   entry c = let half = c .before .before .before .before in half .before .before .before .before
 

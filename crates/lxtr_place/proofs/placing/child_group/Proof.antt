@@ -1,4 +1,4 @@
--- The label that stands at the code's place in the order leads to the child.
+-- The label at the code's place in the order leads to the child.
 use borrow.Author.Needs.{needs}
 use Rattle.lxtr_build_laws.specs.CodeTables.{labelBy}
 use Rattle.lxtr_place.proofs.placing.child_group.Statement.{statement}

@@ -1,4 +1,4 @@
--- By the code: a child's check alone, or the base of an end too.
+-- The code decides: only the child's check is stored, or for an end its base too.
 use borrow.Author.Needs.{needs}
 use native.Mathlib.Omega.{arith}
 use lib.ListN.{length-set}

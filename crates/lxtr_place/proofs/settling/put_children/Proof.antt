@@ -1,4 +1,4 @@
--- The words of the first j children are put; the others make the whole.
+-- Invariant: the words of the first j children are stored; those of the others complete the whole.
 use borrow.Author.Needs.{needs}
 use Prim.Native.Nat.{_-_}
 use lib.ListN.{length}

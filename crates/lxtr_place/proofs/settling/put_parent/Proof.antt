@@ -1,4 +1,4 @@
--- The base is put; the check changes only where the first code is 0.
+-- The base is stored; the check changes only if the first code is 0.
 use borrow.Author.Needs.{needs}
 use Rattle.lxtr_place.specs.SettlingWords.{parent-none, parent-plain, parent-of-end}
 use Rattle.lxtr_place.proofs.settling.put_parent.Statement.{statement}

@@ -1,4 +1,4 @@
--- First fit answers the base; then the words are put, the slot's own first.
+-- First fit gives the base; then the words are stored, the slot's own first.
 use borrow.Author.Needs.{needs}
 use Rattle.lxtr_place.specs.SettlingWords.{settle-none, settle-inside, settle-base}
 use Rattle.lxtr_place.proofs.settling.settle.Statement.{statement}

@@ -1,5 +1,5 @@
--- Invariant: n is the slot that the first i labels reach, and `longest` the last length with a value up to i.
--- Each turn is one of the laws of `Matches` and `Kept`; where the walk stops or ends, this is the last of all.
+-- Invariant: n is the slot that the first i labels reach, and `longest` is the longest length up to i that has a value, or 0.
+-- Each turn is one of the laws of `Matches` and `Kept`. If the walk stops or ends, this is the longest of all.
 use borrow.Author.Needs.{needs}
 use Prim.Native.Nat.{_-_}
 use mathlib.Core.Path.{_≡_}

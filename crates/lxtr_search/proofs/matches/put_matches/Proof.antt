@@ -1,5 +1,5 @@
 -- Invariant: n is the slot that the first i labels reach, and the arrays hold the matches of the lengths up to i.
--- Each turn is one of the laws of `Matches` and `Kept`; where the walk stops or ends, these are all matches.
+-- Each turn is one of the laws of `Matches` and `Kept`. If the walk stops or ends, these are all matches.
 use borrow.Author.Needs.{needs}
 use Prim.Native.Nat.{_-_}
 use mathlib.Core.Path.{_≡_}

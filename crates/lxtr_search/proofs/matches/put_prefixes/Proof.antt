@@ -1,4 +1,4 @@
--- Both arrays are cleared. Then a refusal alone, or the matches and no refusal.
+-- Both arrays are cleared. Then a refusal and no match, or the matches and no refusal.
 use borrow.Author.Needs.{needs}
 use Prim.Native.Nat.{ℕ}
 use mathlib.Core.Path.{_≡_}

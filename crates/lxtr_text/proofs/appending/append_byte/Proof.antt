@@ -1,4 +1,4 @@
--- Where there is room the byte is put; a full line stays.
+-- If there is room, the byte is stored; a full line stays as it is.
 use borrow.Author.Needs.{needs}
 use Rattle.lxtr_text.specs.Appends.{append-one, append-full}
 use Rattle.lxtr_text.proofs.appending.append_byte.Statement.{statement}

@@ -1,4 +1,4 @@
--- By the rows of the table.
+-- The cases are the rows of the table.
 use borrow.Author.Needs.{needs}
 use Rattle.lxtr_text.specs.Characters.{one-byte}
 use Rattle.lxtr_text.proofs.characters.append_character.Statement.{statement}

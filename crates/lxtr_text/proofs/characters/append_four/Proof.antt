@@ -1,4 +1,4 @@
--- The bytes one behind the other are the row of the table.
+-- The bytes, one after the other, are the row of the table.
 use borrow.Author.Needs.{needs}
 use Rattle.lxtr_text.specs.Characters.{four-bytes}
 use Rattle.lxtr_text.proofs.characters.append_four.Statement.{statement}

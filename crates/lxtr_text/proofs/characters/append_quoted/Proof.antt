@@ -1,4 +1,4 @@
--- A quotation mark or a backslash goes behind a backslash.
+-- A quotation mark or a backslash comes after a backslash.
 use borrow.Author.Needs.{needs}
 use Rattle.lxtr_text.specs.Characters.{mark-small, escaped, unescaped}
 use Rattle.lxtr_text.proofs.characters.append_quoted.Statement.{statement}

@@ -1,4 +1,4 @@
--- One tail byte behind the other.
+-- One tail byte after the other.
 use borrow.Author.Needs.{needs}
 use Rattle.lxtr_text.specs.Characters.{two-tails}
 use Rattle.lxtr_text.proofs.characters.append_tails.Statement.{statement}

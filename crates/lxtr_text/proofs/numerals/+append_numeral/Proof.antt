@@ -1,5 +1,5 @@
--- The one proof of the cycle of calls {append_numeral}. The measure is how many digits are still allowed.
--- The call puts all digits but the last, and then follows that one.
+-- The one proof of the cycle of calls {append_numeral}. Measure: the number of digits that are still allowed.
+-- The recursive call appends all digits but the last; then the last one is appended.
 use Prim.Native.Nat.{ℕ, _<_}
 use native.Mathlib.Omega.{arith}
 use borrow.Author.Needs.{needs}
@@ -23,7 +23,7 @@ at t = and 1 kinds.ps (is 1 kinds.ps μ t) append-numeral.Pre
 abbrev below : ℕ → In 1 kinds.ps
 below t = and 1 kinds.ps (falls 1 kinds.ps _<_ μ t) append-numeral.Pre
 
--- what the callees ask and say
+-- what the callees require and ensure
 abbrev told : ℕ → lts.Claims
 told t = (digit-of-reads.Asked, digit-of-reads.Learnt, append-byte-reads.Asked, append-byte-reads.Learnt, below t, append-numeral.Post)
 

@@ -1,4 +1,4 @@
--- The branches are the cases of the definition, by the number's size.
+-- The branches are the cases of the definition, depending on the size of the number.
 use Prim.Native.Nat.{_<_}
 use native.Mathlib.Omega.{arith}
 use borrow.Author.Needs.{needs}

@@ -1,4 +1,4 @@
--- The branches are the cases of the definition, by the first byte.
+-- The branches are the cases of the definition, depending on the first byte.
 use borrow.Author.Needs.{needs}
 use Rattle.lxtr_utf8.specs.Fronts.{number-one, number-none, number-two, number-three, number-four, number-high}
 use Rattle.lxtr_utf8.proofs.characters.front_number.Statement.{statement}

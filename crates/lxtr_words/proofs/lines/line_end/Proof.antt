@@ -1,4 +1,4 @@
--- Invariant: the line ends where the line would end that starts here.
+-- Invariant: the line ends where a line that starts here would end.
 use borrow.Author.Needs.{needs}
 use Prim.Native.Nat.{_-_}
 use lib.ListN.{length}

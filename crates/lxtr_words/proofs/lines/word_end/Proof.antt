@@ -1,4 +1,4 @@
--- An empty line has the empty word; another loses a carriage return at its end.
+-- An empty line has the empty word; any other loses a carriage return at its end.
 use borrow.Author.Needs.{needs}
 use Rattle.lxtr_words.specs.TextLines.{word-none, word-return, word-all}
 use Rattle.lxtr_words.proofs.lines.word_end.Statement.{statement}

@@ -1,4 +1,4 @@
--- Invariant: no line before this one has a problem, so that the lines from here on decide.
+-- Invariant: no line before this one has a problem, so the lines starting here decide.
 use borrow.Author.Needs.{needs}
 use Prim.Native.Nat.{_+_, _-_}
 use lib.ListN.{length}

@@ -1,4 +1,4 @@
--- What was counted tells the problem.
+-- The count of the labels decides: the word is not UTF-8, or has too many labels, or has no problem.
 use borrow.Author.Needs.{needs}
 use Rattle.lxtr_words.specs.Problems.{word-not, word-long, word-right}
 use Rattle.lxtr_spec.specs.Labels.{maxLabels}

@@ -1,4 +1,4 @@
--- Invariant: what the sum lacks of the length is what the keys from here on have.
+-- Invariant: the sum so far, plus the bytes of the keys that are left, is the length of the list.
 use borrow.Author.Needs.{needs}
 use Prim.Native.Nat.{_-_}
 use lib.ListN.{length}

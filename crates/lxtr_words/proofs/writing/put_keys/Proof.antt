@@ -1,4 +1,4 @@
--- Invariant: the keys from here on make of the output what all keys make of it.
+-- Invariant: writing the keys that are left makes the output what writing all keys makes it.
 use borrow.Author.Needs.{needs}
 use Prim.Native.Nat.{_-_}
 use lib.ListN.{length}

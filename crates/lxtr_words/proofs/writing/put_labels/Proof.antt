@@ -1,4 +1,4 @@
--- The word has no problem and there is room, so that its labels are decoded.
+-- The word has no problem and there is room, so its labels are decoded.
 use borrow.Author.Needs.{needs}
 use Rattle.lxtr_words.specs.KeyWriting.{labels-count, labels-put}
 use Rattle.lxtr_words.proofs.writing.put_labels.Statement.{statement}

@@ -1,4 +1,4 @@
--- Version and count, and the keys behind them.
+-- Version and count, and the keys after them.
 use borrow.Author.Needs.{needs}
 use Rattle.lxtr_words.specs.KeyWriting.{head-room, keys-room, list-put}
 use Rattle.lxtr_words.proofs.writing.put_list.Statement.{statement}

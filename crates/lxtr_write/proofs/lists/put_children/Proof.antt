@@ -1,4 +1,4 @@
--- The links go from child to child; no code between two of them has a child.
+-- Invariant: the children so far are written, and t is the next one. No code between two linked children has a child.
 use borrow.Author.Needs.{needs}
 use native.Mathlib.Omega.{arith}
 use Rattle.lxtr_spec.specs.Placing.{baseAt}

@@ -1,5 +1,5 @@
 -- Invariant: the offsets and the lists of the slots before p are written.
--- Each turn lays one offset behind the offsets and one list behind the lists; the last offset comes after the loop.
+-- Each turn lays one offset after the offsets and one list after the lists; the last offset comes after the loop.
 use borrow.Author.Needs.{needs}
 use Prim.Native.Nat.{_-_}
 use Rattle.lxtr_write.specs.ListWriting.{ListsSoFar, lists-start, lists-fit, lists-room, lists-next, lists-end}

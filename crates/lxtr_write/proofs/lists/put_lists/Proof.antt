@@ -1,4 +1,4 @@
--- All slots are linked, and the lists go by the links.
+-- All slots are linked, and the lists are written by following the links.
 use borrow.Author.Needs.{needs}
 use mathlib.Core.Path.{refl}
 use Rattle.lxtr_write.proofs.lists.put_lists.Statement.{statement}

@@ -1,4 +1,4 @@
--- The first words and bytes of slices that have as many are as many as the numbers say.
+-- Slices that are long enough have fronts of as many words and bytes as the numbers say.
 use borrow.Author.Needs.{needs}
 use mathlib.Core.Path.{sym}
 use native.Mathlib.Omega.{arith}

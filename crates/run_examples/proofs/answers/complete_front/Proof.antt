@@ -1,4 +1,4 @@
--- The first bytes of a slice that has more are as many as the size says.
+-- The front of a longer slice has as many bytes as the size says.
 use borrow.Author.Needs.{needs}
 use mathlib.Core.Path.{sym}
 use native.Mathlib.Omega.{arith}

@@ -1,4 +1,4 @@
--- The place goes up to the number of possible lengths.
+-- Measure: the places that are left.
 use borrow.Author.Needs.{needs}
 use Prim.Native.Nat.{_-_}
 use Rattle.lxtr_spec.specs.Labels.{maxLabels, lengthCount}

@@ -1,4 +1,4 @@
--- The place goes up to the end of the array.
+-- Measure: the bytes that are left.
 use borrow.Author.Needs.{needs}
 use Prim.Native.Nat.{_-_}
 use Rattle.run_examples.proofs.rooms.is_left.Statement.{statement}
