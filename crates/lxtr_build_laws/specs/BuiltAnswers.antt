@@ -1,4 +1,4 @@
--- What the builder's answer says of the output: the image that it announces lies in it.
+-- What the builder's answer says of the output: the length in the answer is at most that of the output.
 use Prim.Native.Nat.{ℕ, _≤_}
 use native.Mathlib.Omega.{arith}
 use mathlib.Core.Path.{_≡_, ap}

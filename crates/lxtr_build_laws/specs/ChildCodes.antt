@@ -1,4 +1,4 @@
--- The codes of a group's children: they rise, and they are those by which its keys go on.
+-- The codes of a group's children: they rise, and they are the codes with which its keys continue.
 use Prim.Native.Nat.{ℕ, suc, _+_, _≤_}
 use mathlib.Core.Path.{_≡_, refl, sym, ap, _∙_}
 use mathlib.Core.List.{List, [], _∷_, List·Memᴰ, List·Memᴰ·cases-cons, List·Memᴰ·not-nil}
@@ -25,7 +25,7 @@ pub codes-rise : (code : ℕ → ℕ) (g : List Pair) → Rising (childCodes cod
 unfolding Rising
 codes-rise code g = rising-more code g [] tt
 
--- some key of the group goes on by code e
+-- some key of the group continues with code e
 abbrev pub GoesOn : (ℕ → ℕ) → List Pair → ℕ → Type 0
 GoesOn code g e = (p : Pair) × List·Memᴰ p g × (e ≡ nextCode code (p .0))
 
@@ -56,10 +56,10 @@ pub codes-small : (code : ℕ → ℕ) (n : ℕ) (g : List Pair) → CodesIn cod
 unfolding CodesIn
 codes-small code n g h e m = let r = codes-mem code g e m in omega (arith, next-small code n (r .0 .0) (h (r .0) (r .1)), r .2)
 
--- ---- how many they are, beside the keys of one child
+-- ---- how many codes there are, together with the keys of one child
 
 module _ (code : ℕ → ℕ) (x : ℕ) where
-  -- a key that goes on by x has x's code
+  -- a key that continues with label x has the code of x next
   by-label : (p : Pair) (g : List Pair) → (length (below x (p ∷ g)) ≡ length (below x g)) ⊎ ((length (below x (p ∷ g)) ≡ suc (length (below x g))) × (nextCode code (p .0) ≡ code x))
   unfolding below nextCode
   by-label ([], i) g = inl refl
@@ -70,7 +70,7 @@ module _ (code : ℕ → ℕ) (x : ℕ) where
       go true e = inr (refl, ap code (eqb-true y x e))
       go false e = inl refl
 
-  -- it brings no code where that is there already
+  -- such a key adds no code if that code is there already
   codes-known : (g : List Pair) (cs : List ℕ) → Rising cs → List·Memᴰ (code x) cs → length (childCodes code g cs) + length (below x g) ≤ length g + length cs
   unfolding childCodes below
   codes-known [] cs r m = omega arith

@@ -1,4 +1,4 @@
--- The children lists of a work: who stands in the list of a slot, by which code, and in all lists together.
+-- The children lists of a work: which slots are in the list of a slot, by which code, and in all lists together.
 use Prim.Native.Nat.{ℕ, zero, suc, _+_, _^_, _≤_, _<_}
 use native.Mathlib.Nat.{zero-add}
 use native.Mathlib.Omega.{arith}
@@ -26,7 +26,7 @@ pub record Child (w : List ℕ) (N p t : ℕ) : Type 0 where
   pub to : t < N
   pub of : low31 (checkAt w t) ≡ p
 
--- and it stands in p's list, by a code that the map with L labels has
+-- and it is in p's list, by a code of the map, which has L labels
 pub record ListedChild (w : List ℕ) (N L p t : ℕ) : Type 0 where
   pub parent-from : 1 ≤ p
   pub parent-inner : baseAt w p < 2 ^ 31
@@ -35,7 +35,7 @@ pub record ListedChild (w : List ℕ) (N L p t : ℕ) : Type 0 where
   pub code-to : code ≤ L
   pub at : t ≡ slotUnder (baseAt w p) code
 
--- every taken slot stands in some slot's list
+-- every taken slot from 2 up is in some slot's list
 abbrev pub TakenListed : List ℕ → ℕ → ℕ → Type 0
 TakenListed w N L = (t : ℕ) → 2 ≤ t → checkAt w t ≢ 0 → (p : ℕ) × (p < N) × ListedChild w N L p t
 
@@ -48,7 +48,7 @@ module _ (w : List ℕ) (N p : ℕ) where
   unfolding isChild
   child-is t = (λ e. let ((from, to), of) = simp tests at e in record { from = from; to = to; of = of }, λ k. simp tests ((k .from, k .to), k .of))
 
-  -- the list by one code
+  -- the child by one code
   by-mem : (c t : ℕ) → List·Memᴰ t (childBy w N p c) → Child w N p t × (t ≡ slotUnder (baseAt w p) c)
   unfolding childBy
   by-mem c t m = go (isChild w N p (slotUnder (baseAt w p) c)) refl m
@@ -158,6 +158,6 @@ module _ (w : List ℕ) (N L : ℕ) where
       let a = length-append (childrenOf w N L p) (concatFrom k (p + 1) (childrenOf w N L)) in
       omega arith
 
-  -- the list of slot p begins behind those of the slots before it
+  -- the list of slot p begins after those of the slots before it
   pub offset-at : (p : ℕ) → p ≤ N → getD (offsetsFrom w N L N 0 0) p 0 ≡ length (concatFrom p 0 (childrenOf w N L))
   offset-at p h = offset-from N 0 0 p h ∙ zero-add (length (concatFrom p 0 (childrenOf w N L)))

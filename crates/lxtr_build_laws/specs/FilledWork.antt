@@ -1,5 +1,6 @@
--- Placing fills a work: the slots of prefixes and of the keys' ends differ and hold what an image's slots hold, and all others hold zeros.
--- Slots that are reached by different codes differ, since no slot has two parents; a taken slot lies in the tree, so it is one of these.
+-- Placing fills a work: the slots of prefixes and of keys' ends differ and hold what an image's slots hold; all others hold zeros.
+-- Two prefixes with the same slot have the same parent and the same last code, so they are equal; and a taken slot from 2 up is in
+-- the tree, so it is one of these.
 use Prim.Native.Nat.{ℕ, zero, suc, _+_, _*_, _^_, _≤_, _<_}
 use native.Mathlib.Omega.{arith}
 use native.Mathlib.Decide.{ℕ-discrete, decLe}
@@ -38,7 +39,7 @@ prefixSlot code w p = slotAlong code w 1 p
 abbrev pub endSlot : (ℕ → ℕ) → List ℕ → List ℕ → ℕ
 endSlot code w k = slotUnder (baseAt w (slotAlong code w 1 k)) 0
 
--- HAS_LEAF is set exactly where code 0 is among the codes
+-- HAS_LEAF is set exactly when code 0 is among the codes
 flag-is : (cs : List ℕ) → Rising cs → (x : ℕ) → x < 2 ^ 31 → (topBit (flagOf cs + x) ≡ true) ↔ List·Memᴰ 0 cs
 unfolding flagOf Rising
 flag-is [] r x h = (λ e. absurd (omega (arith, leb-is-true (2 ^ 31) (0 + x) .0 e)), λ m. absurd (List·Memᴰ·not-nil m))
@@ -75,7 +76,7 @@ module _ {S L : ℕ} {code label : ℕ → ℕ} {ps : List Pair} {w₀ w : List 
   abbrev codes : List ℕ → List ℕ
   codes p = childCodes code (belowAll p ps) []
 
-  -- ---- where the slots lie and what they hold
+  -- ---- where the slots are and what they hold
 
   slot-is : (p : List ℕ) (x : ℕ) → slot (p ++ x ∷ []) ≡ slotUnder (baseAt w (slot p)) (code x)
   slot-is p x = along-snoc code w p 1 x

@@ -1,5 +1,5 @@
 -- Placing from a work of zeros: the node at each prefix of a key, the codes of its children, and where each taken slot comes from.
--- It goes along the labels of a key, down the tree that placing leaves.
+-- The proof goes along the labels of a key, down the tree that placing leaves.
 use Prim.Native.Nat.{ℕ, zero, suc, _+_, _*_, _-_, _≤_, _<_}
 use native.Mathlib.Omega.{arith}
 use native.Mathlib.Numerals.{add-one}
@@ -38,7 +38,7 @@ pub record Filling (S L : ℕ) (code label : ℕ → ℕ) (ps : List Pair) (w₀
   pub right : KeysRight ps
   pub known : (x : ℕ) → Uses ps x → (1 ≤ code x) × (code x ≤ L) × (label (code x) ≡ x)
 
--- a label stands between what is before and after it
+-- the label after a front part of a list is a member of the list
 pub label-in : (p : List ℕ) (x : ℕ) (r : List ℕ) → List·Memᴰ x (p ++ x ∷ r)
 label-in p x r = Memᴰ·append-right p (List·Memᴰ·head refl)
 
@@ -120,7 +120,7 @@ module _ {S L : ℕ} {code label : ℕ → ℕ} {ps : List Pair} {w₀ w : List 
   unfolding nextCode
   end-code k v h = codes-have code (belowAll k ps) ([], v) (end-mem k v h)
 
-  -- the other way: an end's code comes from a key
+  -- conversely, the code of an end comes from a key
   pub code-end : (p : List ℕ) → List·Memᴰ 0 (codes p) → (v : ℕ) × Has d p v
   code-end p m = let q = codes-mem code (belowAll p ps) 0 m in go (q .0 .0) (q .0 .1) (q .1) (q .2)
     where
@@ -128,7 +128,7 @@ module _ {S L : ℕ} {code label : ℕ → ℕ} {ps : List Pair} {w₀ w : List 
       go [] v n e = (v, has p v (rw (append-nil p) at (all-up p ps [] v n)))
       go (x ∷ r) v n e = absurd (let z : 0 ≡ code x = unfold nextCode in e in omega (arith, f .known x ((p ++ x ∷ r, v), all-up p ps (x ∷ r) v n, label-in p x r) .0))
 
-  -- every taken slot from 2 up is where a key goes on
+  -- every taken slot from 2 up is one at which some key continues or ends
   pub found : (t : ℕ) → 2 ≤ t → Taken w t → Found code w 1 ps t
   unfolding checkAt
   found t l h = within-found code label w lengthCount 1 ps t (λ x a. f .known x a .2)

@@ -14,14 +14,14 @@ use Rattle.lxtr_laws.specs.Tests.{and-is-true, ltb-is-true, leb-is-true, eqb-is
 use Rattle.lxtr_laws.specs.JoiningLaws.{code-of-slot}
 use Rattle.lxtr_build_laws.specs.SlotWords.{Free}
 
--- the smallest base from b on that fits is r
+-- r is the smallest base from b up that fits
 pub record Smallest (S : ℕ) (w cs : List ℕ) (b r : ℕ) : Type 0 where
   pub from : b ≤ r
   pub fit : fits S w cs r ≡ true
   pub none-before : (e : ℕ) → b ≤ e → e < r → fits S w cs e ≡ false
 
 module _ (S : ℕ) (w cs : List ℕ) where
-  -- one base that does not fit is passed
+  -- a base that does not fit is skipped
   pub fit-past : (n b : ℕ) → fits S w cs b ≡ false → firstFitFrom S w cs (suc n) b ≡ firstFitFrom S w cs n (b + 1)
   unfolding firstFitFrom
   fit-past n b h = ap (λ (t : Bool). elim t as (λ _. Option ℕ) [ true ↦ some b | false ↦ firstFitFrom S w cs n (b + 1) ]) h
@@ -89,6 +89,6 @@ fits-free S w (e ∷ cs) b h c m =
     let a = and-is-true (isFree S w (slotUnder b e)) (fits S w cs b) .0 h in
     ⊎-elim (λ (q : c ≡ e). rw q (free-of S w (slotUnder b e) (a .0))) (λ n. fits-free S w cs b (a .1) c n) (List·Memᴰ·cases-cons m)
 
--- codes that reach one slot are one
+-- codes that reach the same slot are equal
 pub slot-injective : (b c e : ℕ) → slotUnder b c ≡ slotUnder b e → c ≡ e
 slot-injective b c e q = sym (code-of-slot b c) ∙ ap (codeUnder b) q ∙ code-of-slot b e

@@ -1,4 +1,4 @@
--- The groups below a group: whose keys they have, in what order, and with which codes.
+-- The groups below a group: which keys they have, in which order, and with which codes.
 use Prim.Native.Nat.{ℕ, _≤_}
 use mathlib.Core.Path.{_≡_, refl, sym, ap, _∙_}
 use mathlib.Core.List.{List, [], _∷_, List·Memᴰ, List·Memᴰ·cases-cons, List·Memᴰ·not-nil}
@@ -65,7 +65,7 @@ ascending-below x (p ∷ g) h = go (ascending-below x g (h .1)) (p .0) refl
 unfoldable pub CodesIn : (ℕ → ℕ) → ℕ → List Pair → Type 0
 CodesIn code n g = (p : Pair) → List·Memᴰ p g → (x : ℕ) → List·Memᴰ x (p .0) → (1 ≤ code x) × (code x ≤ n)
 
--- a label that is left below is left in the group
+-- a label that is left in a group below is left in the group
 pub below-label : (x : ℕ) (g : List Pair) (q : Pair) (m : List·Memᴰ q (below x g)) (y : ℕ) → List·Memᴰ y (q .0) → List·Memᴰ y (below-mem x g q m .whole .0)
 below-label x g q m y k = rw (below-mem x g q m .is) (List·Memᴰ·tail k)
 

@@ -7,18 +7,18 @@ use lib.ListN.{length}
 use Rattle.lxtr_spec.specs.Labels.{isScalar, maxLabels, valueLimit, comesBefore, Pair}
 use Rattle.lxtr_spec.specs.KeyLists.{keysAt, maxKeys, keyCount, keyLength, nextKey, pairsOf}
 
--- the key at a place lies whole in the list and has no more labels than a key may have
+-- the key at a place is wholly within the list and has no more labels than a key may have
 pub record WholeKey (b : List ℕ) (at : ℕ) : Type 0 where
   pub starts : at < length b
   pub ends : nextKey b at ≤ length b
   pub short : keyLength b at ≤ maxLabels
 
--- and so do the n keys from a place on
+-- the same for the n keys starting at a place
 unfoldable pub WholeKeys : List ℕ → ℕ → ℕ → Type 0
 WholeKeys b zero at = Unit {0}
 WholeKeys b (suc n) at = WholeKey b at × WholeKeys b n (nextKey b at)
 
--- each key comes before those behind it
+-- each key comes before those after it
 unfoldable pub Ascending : List Pair → Type 0
 Ascending [] = Unit {0}
 Ascending (p ∷ g) = ((q : Pair) → List·Memᴰ q g → comesBefore (p .0) (q .0) ≡ true) × Ascending g

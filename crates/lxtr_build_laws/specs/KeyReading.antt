@@ -1,4 +1,4 @@
--- One key of a key list and the key after it: how many labels it has, where each lies, and what a loop over the keys has left.
+-- One key of a key list and the keys after it: how many labels it has, where each is, and what a loop over the keys has left.
 use Prim.Native.Nat.{ℕ, zero, suc, _+_, _*_, _-_, _≤_, _<_}
 use mathlib.Core.Path.{_≡_, refl, sym, ap, ap₂, _∙_, subst}
 use mathlib.Core.Logic.{⊎-elim}
@@ -50,12 +50,12 @@ module _ (b : List ℕ) (at : ℕ) where
   pub key-goes : (d : ℕ) → d < keyLength b at → drop d (keyAt b at) ≡ keyLabel b at d ∷ drop (d + 1) (keyAt b at)
   key-goes d h = drop-cons (keyAt b at) d 0 (omega (arith, key-size)) ∙ ap₂ (λ (x m : ℕ). x ∷ drop m (keyAt b at)) (key-at d h) (sym (add-one d))
 
-  -- the bytes of a label lie within the list
+  -- the bytes of a label are within the list
   pub label-inside : (d len : ℕ) → WholeKey b at → len ≡ keyLength b at → d < len → at + 5 + 4 * d ≤ length b
   unfolding nextKey
   label-inside d len w e h = omega (arith, w .ends)
 
-  -- those of one before it too
+  -- and so are those of a label before it
   pub label-before : (d j : ℕ) → WholeKey b at → j < keyLength b at → d < j → at + 5 + 4 * d ≤ length b
   unfolding nextKey
   label-before d j w h l = omega (arith, w .ends)

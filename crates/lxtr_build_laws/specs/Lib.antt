@@ -1,4 +1,4 @@
--- Facts about the builder's definitions, each stated once. Of these a reader of contracts meets KeyListFacts, CodeTables and Work.
+-- Facts about the builder's definitions, each stated once. A reader of contracts meets only KeyListFacts, CodeTables and Work.
 pub mod KeyListFacts
 pub mod CodeTables
 pub mod Work
@@ -32,6 +32,6 @@ pub mod Filled
 pub mod Filling
 pub mod FilledWork
 pub mod ListTotals
--- what building went through
+-- the steps of a build, and what its answer says
 pub mod Outcomes
 pub mod BuiltAnswers

@@ -1,4 +1,4 @@
--- The children lists together are as long as there are taken slots: each taken slot is listed, and listed once.
+-- The children lists together have as many entries as there are taken slots from 2 up: each of these is listed, and listed once.
 use Prim.Native.Nat.{ℕ, _≤_, _<_}
 use native.Mathlib.Omega.{arith}
 use mathlib.Core.Path.{_≡_, ap}
@@ -35,7 +35,7 @@ children-counted w N L listed = members-counted (childrenIn w N L) N (isTakenFro
         let k = listed t from up in
         all-has w N L t (k .0) (k .1) (k .2)
 
--- those of the work that a key list's pairs are placed in
+-- the same for the work in which the pairs of a key list are placed
 pub children-count : (W : ℕ) (ps : List Pair) (w : List ℕ) → 4 ≤ W → KeysRight ps → placedIn W ps (mapOf ps) ≡ some w
     → length (childrenIn w (slotsUsed w (slotsIn W)) (length (mapOf ps))) ≡ countBelow (slotsUsed w (slotsIn W)) (isTakenFrom2 w)
 children-count W ps w h right e =

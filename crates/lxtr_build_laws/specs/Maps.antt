@@ -37,7 +37,7 @@ module _ (f : ℕ → ℕ) where
   is-before x y (inl h) = or-is-true (ltb (f y) (f x)) (eqb (f x) (f y) && ltb x y) .1 (inl (lt-ltb (f y) (f x) h))
   is-before x y (inr h) = or-is-true (ltb (f y) (f x)) (eqb (f x) (f y) && ltb x y) .1 (inr (and-is-true (eqb (f x) (f y)) (ltb x y) .1 (eq-eqb (f x) (f y) (h .0), lt-ltb x y (h .1))))
 
-  -- of two numbers one goes before the other
+  -- of two different numbers one goes before the other
   other-before : (x y : ℕ) → x ≢ y → goesBefore f x y ≡ false → Before y x
   unfolding goesBefore
   other-before x y d e = is-before y x (go (simp tests at e) (decLt (f x) (f y)))
@@ -93,7 +93,7 @@ module _ (f : ℕ → ℕ) where
       go ih true e = rw (rank-first x y ys e) refl
       go ih false e = rw (rank-later x y ys e, ih) refl
 
-  -- y may stand before a list that x came into, if it goes before x and stood before that list
+  -- y stays in order before a list into which x is inserted, if y goes before x
   first-stays : (y x : ℕ) (l : List ℕ) → Before y x → Ordered Before (y ∷ l) → Ordered Before (rankIn f x l) → Ordered Before (y ∷ rankIn f x l)
   unfolding rankIn Ordered
   first-stays y x [] b o r = (b, tt)
@@ -127,7 +127,7 @@ module _ (f : ℕ → ℕ) where
   ranked-length [] ys = omega arith
   ranked-length (x ∷ xs) ys = omega (arith, ranked-length xs (rankIn f x ys), rank-length x ys)
 
-  -- rising numbers, put to others that are in order
+  -- rising numbers, inserted among others that are in order
   ranked-ordered : (xs ys : List ℕ) → Rising xs → ((z : ℕ) → List·Memᴰ z xs → List·Memᴰ z ys → ⊥) → Ordered Before ys → Ordered Before (ranked f xs ys)
   unfolding ranked Rising
   ranked-ordered [] ys r n o = o
@@ -139,7 +139,7 @@ module _ (f : ℕ → ℕ) where
 -- ---- the code map
 
 module _ (ps : List Pair) where
-  -- it lists the labels that the keys use, and no other
+  -- it lists the labels that the keys use, and no others
   pub map-members : (x : ℕ) → List·Memᴰ x (mapOf ps) ↔ Uses ps x
   unfolding mapOf
   map-members x =
@@ -149,12 +149,12 @@ module _ (ps : List Pair) where
         λ u. all .1 (inl (used .1 (inl u))),
       )
 
-  -- higher frequency first, of equal ones the smaller label
+  -- higher frequency first; among equal ones, the smaller label
   pub map-ordered : Ordered (λ x y. goesBefore (frequency ps) x y ≡ true) (mapOf ps)
   unfolding mapOf Rising Ordered
   map-ordered = ranked-ordered (frequency ps) (labelsUsed ps []) [] (used-rising ps [] tt) (λ z m k. List·Memᴰ·not-nil k) tt
 
-  -- so each stands at one place only
+  -- so each is at one place only
   pub map-once : (i j : ℕ) → i < length (mapOf ps) → j < length (mapOf ps) → getD (mapOf ps) i 0 ≡ getD (mapOf ps) j 0 → i ≡ j
   map-once =
       let f = frequency ps in
@@ -174,13 +174,13 @@ pub code-later : (x y : ℕ) (l : List ℕ) → y ≢ x → codeIn (y ∷ l) x �
 unfolding codeIn
 code-later x y l e = ap (λ (t : Bool). elim t as (λ _. ℕ) [ true ↦ 1 | false ↦ suc (codeIn l x) ]) (ne-eqb y x e)
 
--- the label of a code is the one at the place before it
+-- the label of code c is at place c - 1
 pub label-place : (m : List ℕ) (c : ℕ) → 1 ≤ c → labelWith m c ≡ getD m (c - 1) 0
 unfolding labelWith
 label-place m zero h = absurd (omega arith)
 label-place m (suc c) h = let e : suc c - 1 ≡ c = omega arith in rw e refl
 
--- a label that the list has: its code, and its label back
+-- a label that the list has: its code is in range, and gives the label back
 pub record Coded (m : List ℕ) (x : ℕ) : Type 0 where
   pub from : 1 ≤ codeIn m x
   pub to : codeIn m x ≤ length m
@@ -203,7 +203,7 @@ coded (y ∷ m) x k = go (coded m x) (ℕ-discrete y x)
         let r = ih (⊎-elim (λ (q : x ≡ y). absurd (e (sym q))) (λ w. w) (List·Memᴰ·cases-cons k)) in
         record { from = omega arith; to = omega (arith, r .to); back = ap (labelWith (y ∷ m)) c ∙ code-on y m (codeIn m x) (r .from) ∙ r .back }
 
--- where each stands once, the code of a place's label is that of the place
+-- if each label is listed once, the label at place c - 1 has code c
 pub code-only : (m : List ℕ) (x c : ℕ) → ((i j : ℕ) → i < length m → j < length m → getD m i 0 ≡ getD m j 0 → i ≡ j) → 1 ≤ c → c ≤ length m → getD m (c - 1) 0 ≡ x → codeIn m x ≡ c
 code-only m x c o f t e =
     let k = coded m x (rw (← e) (member-at 0 m (c - 1) (omega arith))) in

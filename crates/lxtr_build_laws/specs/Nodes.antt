@@ -1,5 +1,5 @@
--- A slot whose children are placed: the words that it and they have, once the children have been gone into.
--- What is placed below the children changes free slots and theirs, so p's words and their parents stay.
+-- A slot p whose children are placed: the words that it and they have, once placing has gone into the children.
+-- That changes only free slots and the children's own words, not their parents; so p's words and the children's parents stay.
 use Prim.Native.Nat.{ℕ, zero, suc, _+_, _*_, _^_, _<_}
 use mathlib.Core.Path.{_≡_, refl, sym, ap, _∙_, subst}
 use mathlib.Core.List.{List, [], _∷_, List·Memᴰ, List·Memᴰ·cases-cons, List·Memᴰ·not-nil}
@@ -16,13 +16,13 @@ use Rattle.lxtr_build_laws.specs.FirstFit.{AllFree, slot-injective}
 use Rattle.lxtr_build_laws.specs.SettledSlots.{put-child-same, Settled, settle-free, settle-step, settle-parent, settle-ready}
 use Rattle.lxtr_build_laws.specs.Placed.{Inner}
 
--- HAS_LEAF where an end is among the children, whose codes rise
+-- HAS_LEAF, if an end is among the children, whose codes rise; otherwise 0
 unfoldable pub flagOf : List ℕ → ℕ
 flagOf [] = 0
 flagOf (zero ∷ cs) = 2 ^ 31
 flagOf (suc c ∷ cs) = 0
 
--- Slot s of w, whose children have the codes cs: its base is b, they lie under it on slots that were free in w₀, and the end has the value v.
+-- Slot s of w, whose children have the codes cs: its base is b, their slots under b were free in w₀, and the end has the value v.
 pub record Node (S : ℕ) (w₀ w : List ℕ) (s : ℕ) (cs : List ℕ) (v b : ℕ) : Type 0 where
   pub base-is : baseAt w s ≡ b
   pub small : b < baseCount
@@ -31,7 +31,7 @@ pub record Node (S : ℕ) (w₀ w : List ℕ) (s : ℕ) (cs : List ℕ) (v b : �
   pub parent-is : (c : ℕ) → List·Memᴰ c cs → (parentAt w (slotUnder b c) ≡ s) × Taken w (slotUnder b c)
   pub leaf : List·Memᴰ 0 cs → (baseAt w (slotUnder b 0) ≡ 2 ^ 31 + v) × (checkAt w (slotUnder b 0) ≡ s)
 
--- ---- the words that settling puts
+-- ---- the words that settling writes
 
 children-same : (p v b : ℕ) (cs w : List ℕ) (t : ℕ) → ((c : ℕ) → List·Memᴰ c cs → t ≢ slotUnder b c) → Same w (putChildren p v b cs w) t
 unfolding putChildren Same
@@ -41,7 +41,7 @@ children-same p v b (c ∷ cs) w t n =
     let r = children-same p v b cs (putChild p v b c w) t (λ e m. n e (List·Memᴰ·tail m)) in
     (r .0 ∙ a .0, r .1 ∙ a .1)
 
--- the end stands first
+-- an end comes first among the children
 children-leaf : (p v b : ℕ) (cs w : List ℕ) → Rising cs → 2 * slotUnder b 0 < length w → List·Memᴰ 0 cs → baseAt (putChildren p v b cs w) (slotUnder b 0) ≡ 2 ^ 31 + v
 unfolding putChildren putChild Rising Same
 children-leaf p v b [] w r h m = absurd (List·Memᴰ·not-nil m)
@@ -68,14 +68,14 @@ parent-flag p b [] w h l = check-of-base w p p b ∙ omega arith
 parent-flag p b (zero ∷ cs) w h l = check-same (set w (2 * p) b) p _ (omega (arith, length-set w (2 * p) b))
 parent-flag p b (suc c ∷ cs) w h l = check-of-base w p p b ∙ omega arith
 
--- ---- a slot that may be gone into, and its children
+-- ---- a slot that placing may go into, and its children
 
--- its check is its parent alone
+-- the slot's check is its parent alone, without HAS_LEAF
 pub record Plain (S : ℕ) (w : List ℕ) (p : ℕ) : Type 0 where
   pub ready : Ready S w p
   pub plain : checkAt w p < 2 ^ 31
 
--- it still is after a step of other slots
+-- that is still so after a step of other slots
 pub plain-after : {S p : ℕ} {A : ℕ → Type 0} {w u : List ℕ} → Plain S w p → Step S A w u → (A p → ⊥) → Plain S u p
 plain-after {p = p} r s n = record { ready = ready-after (r .ready) s; plain = omega (arith, r .plain, s .kept p (r .ready .taken) n .1) }
 
@@ -89,11 +89,11 @@ module _ (S p v : ℕ) (cs w : List ℕ) (b : ℕ) (x : List ℕ) (start : Plain
   parent-is : (c : ℕ) → List·Memᴰ c cs → checkAt x (slotUnder b c) ≡ p
   parent-is = settle-parent S p v cs w b x (start .ready) up rising
 
-  -- the children may be gone into
+  -- placing may go into the children
   pub settle-plain : (c : ℕ) → List·Memᴰ c cs → Plain S x (slotUnder b c)
   settle-plain c m = record { ready = settle-ready S p v cs w b x (start .ready) up rising c m; plain = omega (arith, parent-is c m, start .ready .to, start .ready .slots) }
 
-  -- once they have been
+  -- once it has gone into them
   module _ (u : List ℕ) (second : Step S (Inner b cs) x u) where
     apart : (c : ℕ) → List·Memᴰ c cs → p ≢ slotUnder b c
     apart c m e = start .ready .taken (subst (λ (y : ℕ). Free w y) (sym e) (free c m .0))

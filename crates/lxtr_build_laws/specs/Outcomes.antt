@@ -1,4 +1,4 @@
--- What building went through where it refuses nothing.
+-- The steps of a build that refuses nothing.
 use Prim.Native.Nat.{ℕ, zero, suc, _≤_}
 use native.Mathlib.Omega.{arith}
 use mathlib.Core.Path.{_≡_, refl, sym, _∙_}
@@ -14,12 +14,12 @@ use Rattle.lxtr_spec.specs.KeyLists.{listRefusal, pairsOf}
 use Rattle.lxtr_spec.specs.CodeMaps.{mapOf}
 use Rattle.lxtr_spec.specs.Builds.{slotsUsed, imageIn, slotsIn, placedIn, Outcome, refuses, builds, withRoom, fromPlaced, fromLabels, fromKeys, outcomeOf, answered, workAfter, buildOf}
 
--- the number of a refusal; 0 where there is none
+-- the number of a refusal; 0 if there is none
 unfoldable refusalOf : Outcome → ℕ
 refusalOf (refuses k) = k
 refusalOf (builds image) = 0
 
--- the image that a key list gives with W words of work
+-- the steps from a key list to its image, with W words of work
 pub record BuildSteps (W : ℕ) (keys image : List ℕ) : Type 0 where
   pub words : 4 ≤ W
   pub right : listRefusal keys ≡ 0
@@ -28,7 +28,7 @@ pub record BuildSteps (W : ℕ) (keys image : List ℕ) : Type 0 where
   pub placed : placedIn W (pairsOf keys) (mapOf (pairsOf keys)) ≡ some work
   pub is : image ≡ imageIn work (slotsUsed work (slotsIn W)) (mapOf (pairsOf keys))
 
--- ---- refusal by refusal, from the last one on
+-- ---- refusal by refusal, from the last to the first
 
 room-left : (R : ℕ) (image : List ℕ) → refusalOf (withRoom R image) ≡ 0 → withRoom R image ≡ builds image
 unfolding withRoom refusalOf
@@ -85,7 +85,7 @@ unfolding answered refusalOf
 answer-is (refuses k) out work = refl
 answer-is (builds image) out work = refl
 
--- the image stands at the output's front
+-- the image is at the front of the output
 pub image-built : (keys work out : List ℕ) → buildOf keys work out .answer .refusal ≡ 0 → BuildSteps (length work) keys (take (buildOf keys work out .answer .length) (buildOf keys work out .output))
 unfolding buildOf answered
 image-built keys work out e =

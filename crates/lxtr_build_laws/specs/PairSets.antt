@@ -11,7 +11,7 @@ use Rattle.lxtr_laws.specs.KeyOrder.{before-self}
 use Rattle.lxtr_laws.specs.StepFacts.{none-not-some}
 use Rattle.lxtr_build_laws.specs.KeyListFacts.{Ascending}
 
--- this value where the keys are the same
+-- this value if the keys are the same
 valueIf : {k l : List ℕ} → Dec (k ≡ l) → ℕ → Option ℕ → Option ℕ
 valueIf (yes e) v later = some v
 valueIf (no n) v later = later

@@ -30,7 +30,7 @@ key-passed b i before at e =
       above = λ z. above (omega arith);
     }
 
--- the n keys from key i on
+-- the n keys starting with key i
 record Passing (b : List ℕ) (n i before at : ℕ) : Type 0 where
   pub whole : WholeKeys b n at
   pub ascending : Ascending (keysFrom b n i at)

@@ -21,7 +21,7 @@ use Rattle.lxtr_build_laws.specs.ChildCodes.{codes-have, codes-mem}
 use Rattle.lxtr_build_laws.specs.Trees.{Tree}
 use Rattle.lxtr_build_laws.specs.TreeSlots.{Within}
 
--- the slot that the bases lead to from slot s
+-- the slot to which the bases lead from slot s, along these labels
 unfoldable pub slotAlong : (ℕ → ℕ) → List ℕ → ℕ → List ℕ → ℕ
 slotAlong code w s [] = s
 slotAlong code w s (x ∷ p) = slotAlong code w (slotUnder (baseAt w s) (code x)) p
@@ -31,7 +31,7 @@ unfolding slotAlong
 along-snoc code w [] s x = refl
 along-snoc code w (y ∷ p) s x = along-snoc code w p (slotUnder (baseAt w s) (code y)) x
 
--- the group that passes it
+-- the group that passes that slot
 unfoldable pub belowAll : List ℕ → List Pair → List Pair
 belowAll [] g = g
 belowAll (x ∷ p) g = belowAll p (below x g)
@@ -79,7 +79,7 @@ unfolding belowAll
 all-ascending [] g a = a
 all-ascending (x ∷ p) g a = all-ascending p (below x g) (ascending-below x g a)
 
--- the value put at an end is that of the key that ends there
+-- the value written for an end is that of the key that ends there
 pub end-value : (g : List Pair) (v : ℕ) → Ascending g → List·Memᴰ ([], v) g → endValue g ≡ v
 unfolding Ascending endValue
 end-value [] v a m = absurd (List·Memᴰ·not-nil m)
@@ -105,7 +105,7 @@ tree-along S code label w₀ w (x ∷ p) j s g k r v m tr =
 
 -- ---- the slots of the tree
 
--- t is where the rest of a key goes on, behind its front
+-- t is the slot to which a key leads after its front part: by its next label, or as its end
 pub record Found (code : ℕ → ℕ) (w : List ℕ) (s : ℕ) (g : List Pair) (t : ℕ) : Type 0 where
   pub front : List ℕ
   pub rest : List ℕ

@@ -1,4 +1,4 @@
--- Placing is a step: it changes slot p's own words and free slots only.
+-- Placing is a step: it changes only slot p's own words and free slots.
 use Prim.Native.Nat.{ℕ, zero, suc, _≤_}
 use mathlib.Core.Path.{_≡_, refl, sym, subst}
 use mathlib.Core.List.{List, [], _∷_, List·Memᴰ}
@@ -15,7 +15,7 @@ use Rattle.lxtr_build_laws.specs.PlacingSteps.{Step, step-none, step-joi
 use Rattle.lxtr_build_laws.specs.ChildCodes.{codes-rise}
 use Rattle.lxtr_build_laws.specs.SettledSlots.{settle-some, settle-free, settle-step, settle-ready}
 
--- one of the slots of the codes cs under b that is gone into: not that of an end
+-- one of the slots of the codes cs under b that placing goes into: not that of an end
 abbrev pub Inner : ℕ → List ℕ → ℕ → Type 0
 Inner b cs t = (c : ℕ) × List·Memᴰ c cs × (1 ≤ c) × (t ≡ slotUnder b c)
 

@@ -1,5 +1,5 @@
--- Steps of placing: which slots of the work keep their words, which are taken anew, and by whom.
--- Two steps one after the other are a step, where the second changes only slots that the first may change or that were free.
+-- Steps of placing: which slots of the work keep their words, which become taken, and by which parent.
+-- Two steps one after the other are a step, if the second changes only slots that the first may change or that were free.
 use Prim.Native.Nat.{ℕ, _*_, _^_, _≤_, _<_}
 use mathlib.Core.Path.{_≡_, refl, sym, ap, _∙_, subst}
 use mathlib.Core.List.{List}
@@ -12,7 +12,7 @@ use Rattle.lxtr_spec.specs.Image.{low31}
 use Rattle.lxtr_spec.specs.Placing.{baseAt, checkAt}
 use Rattle.lxtr_build_laws.specs.SlotWords.{Same, Free, Taken, parentAt, free-or-taken, taken-same, free-same}
 
--- a slot taken between w and w′: its parent is one of A, or was free too, and is taken now
+-- a slot taken between w and w′: its parent is one of A or was free too, and is taken now
 pub record NewlyTaken (S : ℕ) (A : ℕ → Type 0) (w w′ : List ℕ) (t : ℕ) : Type 0 where
   pub below : t < S
   pub by : A (parentAt w′ t) ⊎ Free w (parentAt w′ t)
@@ -30,7 +30,7 @@ pub record Step (S : ℕ) (A : ℕ → Type 0) (w w′ : List ℕ) : Type 0 wher
 pub step-none : (S : ℕ) (A : ℕ → Type 0) (w : List ℕ) → Step S A w w
 step-none S A w = record { size = refl; kept = λ t h n. (refl, refl); parent = λ t h. refl; stays = λ t h. h; free-base = λ t h. refl; newly-taken = λ t f h. absurd (h f) }
 
--- one step after another, where the second one's slots are those of A or were free at first
+-- one step after another, if the second one's slots are those of A or were free at first
 pub step-join : {S : ℕ} {A B : ℕ → Type 0} {w u v : List ℕ} → Step S A w u → Step S B u v → ((t : ℕ) → B t → A t ⊎ Free w t) → Step S A w v
 step-join {S} {A} {B} {w} {u} {v} f g sub = record {
   size = g .size ∙ f .size;
@@ -66,7 +66,7 @@ step-join {S} {A} {B} {w} {u} {v} f g sub = record {
           parent-taken = subst (λ (x : ℕ). Taken v x) e (g .stays (parentAt u t) (b .parent-taken));
         }
 
--- the step has more slots to change
+-- a step that may change more slots
 pub step-wider : {S : ℕ} {A B : ℕ → Type 0} {w u : List ℕ} → Step S B w u → ((t : ℕ) → B t → A t) → Step S A w u
 step-wider {S} {A} {B} {w} s f = step-join (step-none S A w) s (λ t b. inl (f t b))
 
@@ -129,7 +129,7 @@ module _ (S p : ℕ) (w w′ : List ℕ) (taken : Taken w p) (size : length w′
           }
       new-slot t f h (no n) = absurd (h (free-same w w′ t (same t n .1) f))
 
--- placing may go into slot p: it is a taken slot
+-- placing may go into slot p: it is a taken slot from 1 up, and the work has room for S slots
 pub record Ready (S : ℕ) (w : List ℕ) (p : ℕ) : Type 0 where
   pub room : 2 * S ≤ length w
   pub slots : S ≤ maxSlots

@@ -1,5 +1,5 @@
--- Settling a slot: its own words and its children's are put. That is a step, and the children may be gone into.
--- The children's slots were free and differ, so a store for one of them leaves the words of the others.
+-- Settling a slot: its own words and its children's are written. That is a step, and placing may then go into the children.
+-- The children's slots were free and differ, so a store for one of them leaves the words of the others as they are.
 use Prim.Native.Nat.{ℕ, zero, suc, _+_, _*_, _^_, _<_}
 use mathlib.Core.Path.{_≡_, refl, sym, ap, _∙_, subst}
 use mathlib.Core.List.{List, [], _∷_, List·Memᴰ, List·Memᴰ·cases-cons, List·Memᴰ·not-nil}
@@ -75,7 +75,7 @@ parent-step S p b (suc c ∷ cs) w r = base-step S p b w r
 
 -- ---- all children's words
 
--- the slots of later codes are still free when one child is put
+-- the slots of later codes are still free after one child is written
 others-free : (S p v b c : ℕ) (cs w : List ℕ) → Rising (c ∷ cs) → AllFree S w b (c ∷ cs) → AllFree S (putChild p v b c w) b cs
 unfolding Rising Same
 others-free S p v b c cs w d f e m =
@@ -91,7 +91,7 @@ children-step S p v b (c ∷ cs) w r d f =
     let s = child-step S p v b c w r (free .0) (free .1) in
     step-join s (children-step S p v b cs (putChild p v b c w) (ready-after r s) (d .1) (others-free S p v b c cs w d f)) (λ t e. inl e)
 
--- the children's slots have p as parent then
+-- the children's slots then have p as parent
 children-parent : (S p v b : ℕ) (cs w : List ℕ) → Ready S w p → Rising cs → AllFree S w b cs → (c : ℕ) → List·Memᴰ c cs → checkAt (putChildren p v b cs w) (slotUnder b c) ≡ p
 unfolding putChildren Rising
 children-parent S p v b [] w r d f c m = absurd (List·Memᴰ·not-nil m)
@@ -178,7 +178,7 @@ module _ (S p v : ℕ) (cs w : List ℕ) (b : ℕ) (u : List ℕ) (ready : Ready
     unfolding w′
     settle-parent c m = ap (λ (x : List ℕ). checkAt x (slotUnder b c)) (settled .is) ∙ children-parent S p v b cs w′ (ready-after ready own) rising still-free c m
 
-    -- a child may be gone into
+    -- placing may go into a child
     pub settle-ready : (c : ℕ) → List·Memᴰ c cs → Ready S u (slotUnder b c)
     settle-ready c m =
         let fc = settle-free c m in

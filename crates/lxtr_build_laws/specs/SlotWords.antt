@@ -43,7 +43,7 @@ Same w w′ t = (baseAt w′ t ≡ baseAt w t) × (checkAt w′ t ≡ checkAt w 
 
 -- ---- free and taken slots
 
--- slot t is one from 2 up and has no parent
+-- slot t is from 2 up and has no parent
 pub record Free (w : List ℕ) (t : ℕ) : Type 0 where
   pub from : 2 ≤ t
   pub zero-check : checkAt w t ≡ 0
@@ -63,7 +63,7 @@ free-or-taken w t = go (decLe 2 t) (ℕ-discrete (checkAt w t) 0)
     go (no l) (yes z) = inr (λ f. l (f .from))
     go (no l) (no z) = inr (λ f. l (f .from))
 
--- a slot stays free or taken where its check stays
+-- a slot stays free or taken if its check stays
 module _ (w w′ : List ℕ) (t : ℕ) (e : checkAt w′ t ≡ checkAt w t) where
   pub taken-same : Taken w t → Taken w′ t
   taken-same h f = h (record { from = f .from; zero-check = sym e ∙ f .zero-check })

@@ -10,7 +10,7 @@ use Rattle.lxtr_build_laws.specs.CodeTables.{placeIn, codeBy, labelBy, p
 use Rattle.lxtr_build_laws.specs.Maps.{map-members, label-place, coded}
 use Rattle.lxtr_build_laws.specs.Groups.{CodesIn}
 
--- the numbers of a table at some places
+-- the numbers of a table at given places
 pub picked-length : (table l : List ℕ) → length (picked table l) ≡ length l
 unfolding picked
 picked-length table [] = refl

@@ -1,4 +1,4 @@
--- Placing takes no slot but those of its tree.
+-- Placing takes only the slots of its tree.
 use Prim.Native.Nat.{ℕ, zero, suc, _≤_}
 use mathlib.Core.Path.{_≡_, refl, sym, ap, _∙_, subst}
 use mathlib.Core.List.{List, [], _∷_, List·Memᴰ}
@@ -18,13 +18,13 @@ use Rattle.lxtr_build_laws.specs.Placed.{Inner}
 use Rattle.lxtr_build_laws.specs.Nodes.{Plain}
 use Rattle.lxtr_build_laws.specs.Trees.{Tree, goInto, later-plain, later-step, later-taken, first-taken, first-other, placed-slot, placed-plain, placed-node, place-tree}
 
--- t is a slot of the tree of g below s, and not s
+-- t is a slot of the tree of g below s, other than s
 unfoldable pub Within : (ℕ → ℕ) → (ℕ → ℕ) → ℕ → List ℕ → ℕ → List Pair → ℕ → Type 0
 Within code label zero w s g t = ⊥
 Within code label (suc k) w s g t =
     (c : ℕ) × List·Memᴰ c (childCodes code g []) × ((t ≡ slotUnder (baseAt w s) c) ⊎ ((1 ≤ c) × Within code label k w (slotUnder (baseAt w s) c) (below (label c) g) t))
 
--- a step that leaves the tree alone leaves its slots where they are
+-- a step that leaves the tree as it is leaves its slots where they are
 within-kept : (S : ℕ) (code label : ℕ → ℕ) (A : ℕ → Type 0) (w₀ w w′ : List ℕ) → Step S A w w′ → ((t : ℕ) → A t → Taken w₀ t)
     → (k s : ℕ) (g : List Pair) → Taken w s → (A s → ⊥) → Tree S code label w₀ k w s g → (t : ℕ) → Within code label k w s g t → Within code label k w′ s g t
 unfolding Tree Within
@@ -46,7 +46,7 @@ within-kept S code label A w₀ w w′ st h (suc k) s g tk n tr t i =
           (i .2),
     )
 
--- ---- going into the children takes no slot but those of their trees
+-- ---- going into the children takes only the slots of their trees
 
 module _ (S : ℕ) (code label : ℕ → ℕ) (k b : ℕ) (g : List Pair) where
   abbrev WithinChild : ℕ → List ℕ → ℕ → Type 0

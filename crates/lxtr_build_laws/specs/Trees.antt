@@ -1,5 +1,5 @@
--- What placing leaves behind: below each slot that was gone into, the tree of its group.
--- Going into a slot changes no words of the trees placed before it, since their slots are taken and not its own.
+-- What placing leaves: below each slot that it went into, the tree of that slot's group.
+-- Going into a slot changes no words of the trees placed before, since their slots are taken and are not the slot itself.
 use Prim.Native.Nat.{ℕ, zero, suc, _+_, _≤_}
 use mathlib.Core.Path.{_≡_, refl, sym, ap, _∙_, subst}
 use mathlib.Core.List.{List, [], _∷_, List·Memᴰ, List·Memᴰ·cases-cons, List·Memᴰ·not-nil}
@@ -40,7 +40,7 @@ module _ (S : ℕ) (code label : ℕ → ℕ) where
         λ c m l. tree-older w₀ w₁ h k w (slotUnder (tr .0) c) (below (label c) g) (tr .2 c m l),
       )
 
-  -- a step that leaves s alone, and whose slots were taken in w₀, leaves the tree alone
+  -- a step that leaves s as it is, and whose slots were taken in w₀, leaves the tree as it is
   tree-kept : (A : ℕ → Type 0) (w₀ w w′ : List ℕ) → Step S A w w′ → ((t : ℕ) → A t → Taken w₀ t)
       → (k s : ℕ) (g : List Pair) → Taken w s → (A s → ⊥) → Tree S code label w₀ k w s g → Tree S code label w₀ k w′ s g
   unfolding Tree
@@ -68,7 +68,7 @@ module _ (S : ℕ) (code label : ℕ → ℕ) (k b : ℕ) (g : List Pair) where
   abbrev pub goInto : ℕ → List ℕ → Option (List ℕ)
   goInto c x = place S code label k (slotUnder b c) (below (label c) g) x
 
-  -- after the first of these codes, the others may still be gone into
+  -- after the first of these codes, placing may still go into the others
   module _ (d : ℕ) (cs x y u : List ℕ) (rising : Rising (suc d ∷ cs)) (ready : (c : ℕ) → List·Memᴰ c (suc d ∷ cs) → Plain S x (slotUnder b c))
       (here : goInto (suc d) x ≡ some y) (there : intoEach goInto cs y ≡ some u) where
     first-step : Step S (λ t. t ≡ slotUnder b (suc d)) x y
@@ -81,7 +81,7 @@ module _ (S : ℕ) (code label : ℕ → ℕ) (k b : ℕ) (g : List Pair) where
     pub later-step : Step S (Inner b cs) y u
     later-step = into-each-step S b goInto cs y u (λ c v v′ r e. place-step S code label k (slotUnder b c) (below (label c) g) v v′ r e) (λ c m. later-plain c m .ready) there
 
-    -- and that leaves the first one's tree alone
+    -- and that leaves the first one's tree as it is
     pub later-taken : (t : ℕ) → Inner b cs t → Taken x t
     later-taken t a = subst (λ (s : ℕ). Taken x s) (sym (a .3)) (ready (a .0) (List·Memᴰ·tail (a .1)) .ready .taken)
 
@@ -117,7 +117,7 @@ module _ (S : ℕ) (code label : ℕ → ℕ) (k b : ℕ) (g : List Pair) where
 
 -- ---- placing leaves the tree of its group
 
--- what one slot's placing went through: p was settled, and the children were gone into
+-- what placing slot p went through: p was settled, and then placing went into its children
 pub record PlacedSlot (S : ℕ) (code label : ℕ → ℕ) (k p : ℕ) (g : List Pair) (w u : List ℕ) : Type 0 where
   pub base : ℕ
   pub between : List ℕ

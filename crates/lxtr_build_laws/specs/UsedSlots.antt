@@ -1,5 +1,5 @@
--- The slots of a work that an image has: how many there are, and that all taken ones are among them.
--- The highest taken slot is looked for from above, so no slot above it is taken.
+-- The slots of a work that go into the image: how many there are, and that all taken ones are among them.
+-- The highest taken slot is searched for from above, so no slot above it is taken.
 use Prim.Native.Nat.{ℕ, zero, suc, _+_, _≤_, _<_}
 use native.Mathlib.Nat.{le-refl}
 use native.Mathlib.Omega.{arith}
@@ -18,7 +18,7 @@ module _ (w : List ℕ) where
   unfolding isTakenFrom2
   taken-is t = (λ e. simp tests at e, λ h. simp tests h)
 
-  -- looked for below n + 1
+  -- the search below n + 1
   pub used-hit : (n : ℕ) → isTakenFrom2 w n ≡ true → slotsUsed w (suc n) ≡ suc n
   unfolding slotsUsed
   used-hit n e = ap (λ (a : Bool). elim a as (λ _. ℕ) [ true ↦ suc n | false ↦ slotsUsed w n ]) e

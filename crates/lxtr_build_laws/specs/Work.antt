@@ -1,4 +1,4 @@
--- The lent work as placing fills it: what the code answers, beside the definition.
+-- The lent work before placing, and what the code's answer after placing means.
 use Prim.Native.Nat.{ℕ, _≤_}
 use mathlib.Core.Path.{_≡_}
 use mathlib.Core.List.{List}
@@ -11,7 +11,7 @@ pub record Cleared (w : List ℕ) : Type 0 where
   pub room : 4 ≤ length w
   pub zeros : w ≡ replicate (length w) 0
 
--- whether every slot had a base, and the work then
+-- what the code answers: whether each slot found a base, and the work afterwards
 unfoldable pub placedAs : Bool → List ℕ → Option (List ℕ)
 placedAs true w = some w
 placedAs false w = none

@@ -18,7 +18,7 @@ use Rattle.lxtr_spec.specs.Sets.{PairSet, Has, ImageOf}
 use Rattle.lxtr_spec.specs.Meaning.{Ordered, Lists}
 use Rattle.lxtr_demands.specs.Operations.{Operations}
 
--- the set has these pairs, and none besides
+-- the set has these pairs, and no others
 pub record HasExactly (d : PairSet) (ps : List Pair) : Type 0 where
   pub each : (k : List ℕ) (v : ℕ) → List·Memᴰ (k, v) ps → Has d k v
   pub only : (k : List ℕ) (v : ℕ) → Has d k v → List·Memᴰ (k, v) ps
@@ -40,7 +40,7 @@ pub record ReadsBack (o : Operations) (keys image : List ℕ) : Type 0 where
   pub completion : (ps : List Pair) (room : List ℕ) → Lists image pair-set [] ps → roomFor ps ≤ length room
       → o .complete image [] room ≡ record { answer = record { refusal = 0; count = keyCount keys; stopped = false }; room = listingOf ps ++ drop (roomFor ps) room }
 
--- wherever building refuses nothing; the image are the bytes that it wrote at the output's front
+-- if building refuses nothing; the image is the bytes that it wrote at the front of the output
 abbrev pub Demand2Builder : Operations → Type 0
 Demand2Builder o = (keys work out : List ℕ) → o .build keys work out .answer .refusal ≡ 0
     → ReadsBack o keys (take (o .build keys work out .answer .length) (o .build keys work out .output))
@@ -52,13 +52,13 @@ pub record Fits (S : ℕ) (w cs : List ℕ) (b : ℕ) : Type 0 where
   pub slot-to : (c : ℕ) → List·Memᴰ c cs → slotUnder b c < S
   pub slot-free : (c : ℕ) → List·Memᴰ c cs → checkAt w (slotUnder b c) ≡ 0
 
--- no smaller base fits
+-- b fits, and no smaller base does
 pub record SmallestFit (S : ℕ) (w cs : List ℕ) (b : ℕ) : Type 0 where
   pub fits : Fits S w cs b
   pub smallest : (a : ℕ) → Fits S w cs a → b ≤ a
 
--- What placing is called with for slot p: p is one of the S slots that the work w has room for, it is slot 1 or has a parent, and it has
--- no HAS_LEAF yet.
+-- What holds when placing is called for slot p: p is one of the S slots that the work w has room for, it is slot 1 or has a parent,
+-- and its HAS_LEAF is not set yet.
 pub record MayBePlaced (S : ℕ) (w : List ℕ) (p : ℕ) : Type 0 where
   pub room : 2 * S ≤ length w
   pub slots : S ≤ maxSlots
@@ -67,18 +67,18 @@ pub record MayBePlaced (S : ℕ) (w : List ℕ) (p : ℕ) : Type 0 where
   pub no-flag : checkAt w p < 2 ^ 31
 
 pub record FirstFit : Type 0 where
-  -- Each base is the smallest that fits: placing slot p, whose group is g, leaves it with the smallest base that fitted its children
-  -- in the work w before. (It places the slots below p by calling itself, so this is said of each slot.)
+  -- Each base is the smallest that fits: placing slot p, whose group is g, leaves it with the smallest base that fitted its
+  -- children in the work w before. (Placing calls itself for the slots below p, so this holds of each slot.)
   pub placed : (S : ℕ) (code label : ℕ → ℕ) (k p : ℕ) (g : List Pair) (w u : List ℕ) → MayBePlaced S w p
       → place S code label (suc k) p g w ≡ some u → SmallestFit S w (childCodes code g []) (baseAt u p)
-  -- That is what firstFit finds, and it finds none only where none fits.
+  -- That is what firstFit finds, and it finds none only if none fits.
   pub found : (S : ℕ) (w cs : List ℕ) (b : ℕ) → firstFit S w cs ≡ some b → SmallestFit S w cs b
   pub none-fits : (S : ℕ) (w cs : List ℕ) (b : ℕ) → firstFit S w cs ≡ none → Fits S w cs b → ⊥
   -- There is one such base.
   pub one-fit : (S : ℕ) (w cs : List ℕ) (a b : ℕ) → SmallestFit S w cs a → SmallestFit S w cs b → a ≡ b
 
--- The labels that the keys use, and no other, in the order of their codes: higher frequency gets the smaller code, equal ones go by
--- smaller label.
+-- The labels that the keys use, and no others, in the order of their codes: higher frequency gets the smaller code, equal ones go
+-- by smaller label.
 abbrev pub FrequencyBefore : List Pair → ℕ → ℕ → Type 0
 FrequencyBefore ps x y = (frequency ps y < frequency ps x) ⊎ ((frequency ps x ≡ frequency ps y) × (x < y))
 

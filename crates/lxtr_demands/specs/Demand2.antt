@@ -15,11 +15,11 @@ use Rattle.lxtr_spec.specs.Sets.{PairSet, ImageOf}
 use Rattle.lxtr_spec.specs.Meaning.{PrefixesIn, LongestIn, Longer, Lists, FittingFront}
 use Rattle.lxtr_demands.specs.Operations.{Operations, defined}
 
--- exact, prefixes, longest and probe's value of the program o for the query q, whose labels are xs, by the set d
+-- what the program o answers for the query q, whose labels are xs, in terms of the set d: exact, prefixes, longest, probe's value
 pub record Searched (o : Operations) (b : List ℕ) (d : PairSet) (q xs : List ℕ) : Type 0 where
   -- Exact: the value number or none.
   pub exact : o .exact b q ≡ record { refusal = 0; value = d xs }
-  -- And of each front part of the query.
+  -- The same for each front part of the query.
   pub exact-front : (n : ℕ) → 4 * n ≤ length q → o .exact b (take (4 * n) q) ≡ record { refusal = 0; value = d (take n xs) }
   -- Prefixes: length and value of each prefix that is a key, shortest first. There is one such list.
   pub prefixes : (ms : List (ℕ × ℕ)) → PrefixesIn d xs ms → o .prefixes b q ≡ prefixesAnswer 0 ms
@@ -33,7 +33,7 @@ pub record Searched (o : Operations) (b : List ℕ) (d : PairSet) (q xs : List �
   pub probe-refusal : o .probe b q .refusal ≡ 0
   pub probe-value : o .probe b q .value ≡ d xs
 
--- these and the other answers, over an image b of the set d
+-- these answers and the others, over an image b of the set d
 pub record Answered (o : Operations) (b : List ℕ) (d : PairSet) (q xs : List ℕ) : Type 0 where
   pub searched : Searched o b d q xs
   -- Probe: whether longer keys exist.
@@ -52,8 +52,8 @@ pub record Answered (o : Operations) (b : List ℕ) (d : PairSet) (q xs : List �
 abbrev pub Demand2 : Operations → Type 0
 Demand2 o = (b : List ℕ) (d : PairSet) (q : List ℕ) → ImageOf b d → length q % 4 ≡ 0 → Answered o b d q (labelsOf q)
 
--- What of this needs no check: where 1 to 8 and 13 refuse nothing, and whether or not the image is accepted, the searches speak
--- of the same pairs, those that exact finds. So prefixes are the lengths and values at which exact finds a value, longest is
--- the last of them, and probe's value is exact's.
+-- What of this needs no check: if 1 to 8 and 13 refuse nothing, then, whether or not the image is accepted, the searches agree on
+-- the pairs that exact finds. So prefixes are the lengths and values at which exact finds a value, longest is the last of them,
+-- and probe's value is exact's.
 abbrev pub SearchesAgree : Type 0
 SearchesAgree = (b q : List ℕ) → searchRefusal b q ≡ 0 → Searched defined b (exactValue b) q (labelsOf q)

@@ -14,7 +14,7 @@ use Rattle.lxtr_demands.specs.Operations.{Operations}
 
 -- what holds of the program o and any bytes b
 pub record Demand3 (o : Operations) (b : List ℕ) : Type 0 where
-  -- Bytes pass the check, which is that it answers no refusal, exactly when they are an image of a set of pairs.
+  -- Bytes pass the check, that is, it answers no refusal, exactly when they are an image of a set of pairs.
   pub passes : (o .check b .refusal ≡ 0) ↔ ((d : PairSet) × ImageOf b d)
   -- They are an image of one set only.
   pub one-set : (d e : PairSet) → ImageOf b d → ImageOf b e → d ≡ e

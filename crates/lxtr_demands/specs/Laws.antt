@@ -1,5 +1,5 @@
--- The proofs of the demands, one idea a file.
--- Codes and counts.
+-- The proofs of the demands, one idea in each file.
+-- The codes of labels.
 pub mod Codes
 -- Bytes that the check accepts are an image.
 pub mod Lists

@@ -1,4 +1,4 @@
--- Demands 2 and 3 of document 01, and what is claimed of the places of faults: each is stated in a file of its own, and proved in Laws.
+-- Demands 2 and 3 of document 01, and the claim about places of faults: each is stated in a file of its own, and proved in Laws.
 -- Then document 01's examples P1 to P11, as one table.
 pub mod Operations
 pub mod Demand3

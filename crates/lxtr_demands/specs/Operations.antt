@@ -1,6 +1,6 @@
--- A program as the demands see it: what each operation answers, and what lent memory holds afterwards, for all that can be passed.
--- Demand 3, demand 2 for the searches, and read-back speak of any such program. `defined` is the one of the definitions, with which the
--- contracts equate what the code answers.
+-- A program as the demands see it: what each operation answers, and what lent memory holds afterwards, for every input.
+-- Demand 3, demand 2 for the searches, and read-back are about any such program. `defined` consists of the definitions, with which
+-- the contracts equate what the code answers.
 use Prim.Native.Nat.{ℕ}
 use mathlib.Core.List.{List}
 use Rattle.lxtr_spec.specs.Refusals.{checkOf}
@@ -11,16 +11,16 @@ use Rattle.lxtr_spec.specs.declared.Verdict.{Verdict}
 use Rattle.lxtr_spec.specs.declared.Prefixes.{Prefixes}
 
 pub record Operations : Type 0 where
-  -- of an image
+  -- takes an image
   pub check : List ℕ → Verdict
-  -- of image and query
+  -- take image and query
   pub exact : List ℕ → List ℕ → ExactAnswer
   pub prefixes : List ℕ → List ℕ → Prefixes
   pub longest : List ℕ → List ℕ → LongestAnswer
   pub probe : List ℕ → List ℕ → ProbeAnswer
-  -- of image, prefix and lent room
+  -- takes image, prefix and lent room
   pub complete : List ℕ → List ℕ → List ℕ → CompletionAnswer
-  -- of key list, lent work and lent output
+  -- takes key list, lent work and lent output
   pub build : List ℕ → List ℕ → List ℕ → BuildAnswer
 
 abbrev pub defined : Operations

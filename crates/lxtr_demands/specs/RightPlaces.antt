@@ -1,4 +1,4 @@
--- Where a fault lies: the place that is answered is the first at which the rule does not hold. One answer is right, and no other.
+-- Where a fault lies: the place that is answered is the first at which the rule does not hold. Exactly one answer is right.
 -- Only the statement; the proof is `fault-right` in Laws/RightPlaces.antt.
 use Prim.Native.Nat.{ℕ, _≤_, _<_}
 use mathlib.Core.Path.{_≡_}
@@ -12,7 +12,7 @@ use Rattle.lxtr_spec.specs.Sets.{InList}
 use Rattle.lxtr_spec.specs.declared.Fault.{Fault}
 use Rattle.lxtr_spec.specs.declared.Fault.the-variants.{Nowhere, Label, Slot, Offset, Entry, Unlisted, Childless, RootBase, Unreachable}
 
--- i is the first number below n that passes the test f; no number below n does
+-- i is the first number below n that passes the test f; and: no number below n passes it
 pub record First (n : ℕ) (f : ℕ → Bool) (i : ℕ) : Type 0 where
   pub below : i < n
   pub here : f i ≡ true
@@ -21,7 +21,8 @@ pub record First (n : ℕ) (f : ℕ → Bool) (i : ℕ) : Type 0 where
 abbrev pub None : ℕ → (ℕ → Bool) → Type 0
 None n f = (i : ℕ) → i < n → f i ≡ false
 
--- 11: entry j of the list of slot p is outside 2 to N-1, unused or has another parent, or its code is not above that of the entry before it
+-- 11: entry j of the list of slot p is outside 2 to N-1, unused or has another parent, or its code is not above that of the entry
+-- before it
 abbrev pub entryFaulty : List ℕ → ℕ → ℕ → Bool
 entryFaulty b p j = entryWrong b p j || codeNotAbove b p j
 
@@ -32,7 +33,7 @@ pub record FirstEntry (b : List ℕ) (p j : ℕ) : Type 0 where
   pub here : entryFaulty b p j ≡ true
   pub none-before : (q i : ℕ) → q < slotCount b → InList b q i → i < j → entryFaulty b q i ≡ false
 
--- no offset falls; and no entry is wrong; and E is the number of used slots from 2 up, each of which is listed
+-- no offset falls; also no entry is wrong; also E is the number of used slots from 2 up, and each of these is listed
 abbrev pub OffsetsRise : List ℕ → Type 0
 OffsetsRise b = None (slotCount b) (offsetFalls b)
 
@@ -42,8 +43,8 @@ EntriesHold b = OffsetsRise b × ((p j : ℕ) → p < slotCount b → InList b p
 abbrev pub AllListed : List ℕ → Type 0
 AllListed b = EntriesHold b × (childCount b ≡ usedCount b) × None (slotCount b) (unlisted b)
 
--- What the answer says of the bytes. Each line has its refusal: so each answer is given exactly with that, and `Nowhere` with none
--- of 9 to 12.
+-- What the answer says of the bytes. Each line names its refusal, so an answer is right only with that refusal, and `Nowhere` only
+-- if none of 9 to 12 is given.
 abbrev pub Right : List ℕ → Fault → Type 0
 Right b Nowhere = imageRefusal b ≤ 8
 Right b (Label i) = (imageRefusal b ≡ 9) × First (labelCount b) (labelWrong b) i

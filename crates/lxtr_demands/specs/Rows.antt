@@ -65,7 +65,7 @@ pub data Example : Type 0 where
   -- a key list, words of work, bytes of output that the builder refuses, the refusal
   build-refused : List ℕ → ℕ → ℕ → ℕ → Example
 
--- n bytes that no listing leaves by chance
+-- n bytes of a value that shows where nothing was written
 abbrev unwritten : ℕ → List ℕ
 unwritten n = replicate n 0xFF
 
@@ -73,7 +73,7 @@ unwritten n = replicate n 0xFF
 abbrev unset : ℕ → List ℕ
 unset n = replicate n 7
 
--- what an example says, for the answer, the number for the host program and the lent memory
+-- what an example says about the answer, the number for the host program and the lent memory
 abbrev pub Holds : Example → Type 0
 Holds (image-bytes b bytes) = b ≡ bytes
 Holds (image-length b n) = length b ≡ n

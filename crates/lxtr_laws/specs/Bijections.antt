@@ -1,5 +1,5 @@
--- As many numbers below n pass a test as there are numbers below m, if a bijection goes from these to those.
--- Where one test holds only with another and as many pass the one as the other, they hold together.
+-- If a bijection takes the numbers below m to the numbers below n that pass a test, then m numbers below n pass it.
+-- If one test implies another, and equally many numbers pass each, then the other implies the one too.
 use Prim.Native.Nat.{ℕ, zero, suc, _+_, _≤_, _<_}
 use native.Mathlib.Nat.{not-suc-le-zero, le-refl}
 use native.Mathlib.Omega.{arith}
@@ -92,7 +92,7 @@ one-same true c e t = refl
 one-same false true e t = absurd (omega arith)
 one-same false false e t = t
 
--- f holds only with g
+-- f implies g
 module _ (f g : ℕ → Bool) where
   count-le : (n : ℕ) → ((i : ℕ) → i < n → f i ≡ true → g i ≡ true) → countBelow n f ≤ countBelow n g
   unfolding countBelow

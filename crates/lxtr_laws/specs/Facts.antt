@@ -1,5 +1,5 @@
--- What holds of bytes that the check accepts, as facts: a record for each of document 01's faults 10 to 12, a field for each part.
--- Faults 1 to 7 and 9 leave what `Framed` says; 8 leaves the first and the last offset.
+-- What holds of bytes that the check accepts, as facts: records for document 01's faults 10 to 12, with a field for each part.
+-- Without faults 1 to 7 and 9, `Framed` holds; without 8, the first and the last offset are right.
 use Prim.Native.Nat.{ℕ, zero, suc, _+_, _-_, _≤_, _<_}
 use mathlib.Core.Path.{_≡_}
 use mathlib.Core.Logic.{_≢_, _⊎_}
@@ -71,7 +71,7 @@ pub record ListsRight (b : List ℕ) : Type 0 where
   pub parents : (s : ℕ) → s < slotCount b → UsedFrom2 b s → isLeaf b s ≡ false → listWidth b s ≢ 0
   pub root : listWidth b 1 ≡ 0 → base b 1 ≡ 0
 
--- 12: the slot k steps to the parent away
+-- 12: the slot that k steps to the parent reach
 unfoldable pub ancestor : List ℕ → ℕ → ℕ → ℕ
 ancestor b zero s = s
 ancestor b (suc k) s = ancestor b k (parent b s)

@@ -1,5 +1,5 @@
 -- The check refuses nothing exactly when the facts hold: fault by fault, each by the laws of its tests.
--- This is the only file of the proof of the demands that opens the faults.
+-- In the proofs of the demands, faults 9 to 12 are unfolded only here and in Laws/RightPlaces of `lxtr_demands`.
 use Prim.Native.Nat.{ℕ, zero, suc, _+_, _-_, _≤_, _<_}
 use native.Mathlib.Nat.{le-refl}
 use native.Mathlib.Omega.{arith}
@@ -94,7 +94,7 @@ module _ (b : List ℕ) where
     λ u. ((((u .parent-below, u .parent-used), u .parent-inner), u .code-listed), u .leaf-code),
   )
 
-  -- the step by code 0 from s exists, and comes to its base
+  -- the end of s exists exactly when the step by code 0 from s does, to the slot at its base
   pub end-exists : (s : ℕ) → (endExists b s ≡ true) ↔ Stepped b s 0 (base b s)
   unfolding endExists hasParent
   end-exists s = simp tests (
@@ -102,7 +102,7 @@ module _ (b : List ℕ) where
     λ t. (t .inner, (t .below, t .up)),
   )
 
-  -- none does from a leaf
+  -- a leaf has no end
   pub leaf-no-end : (s : ℕ) → isLeaf b s ≡ true → endExists b s ≡ false
   leaf-no-end s e = is-false (endExists b s) (λ t. true≢false (sym e ∙ end-exists s .0 t .inner))
 

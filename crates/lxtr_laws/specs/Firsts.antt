@@ -1,4 +1,5 @@
--- The first number below a bound that passes a test: it passes if it is below the bound, and none before it does. There is one such number.
+-- The first number below a bound that passes a test, or the bound if none does: nothing before it passes.
+-- There is only one such number.
 use Prim.Native.Nat.{ℕ, zero, suc, _+_, _≤_, _<_}
 use mathlib.Core.Path.{_≡_, refl, sym, _∙_}
 use mathlib.Core.Bool.{Bool, true, false, true≢false}
@@ -10,14 +11,14 @@ use borrow.Author.Tests.{lt-ltb, le-ltb}
 use Rattle.lxtr_spec.specs.Ranges.{anyBelow, firstFrom, firstBelow}
 use Rattle.lxtr_laws.specs.RangeTests.{any-true, any-false}
 
--- r is the first of the n numbers from i on, or the number behind them
+-- r is the first of the n numbers starting at i that passes f, or i + n if none does
 record FirstFrom (f : ℕ → Bool) (n i r : ℕ) : Type 0 where
   from : i ≤ r
   to : r ≤ i + n
   here : r < i + n → f r ≡ true
   none : (j : ℕ) → i ≤ j → j < r → f j ≡ false
 
--- r is the first number below n, or n
+-- r is the first number below n that passes f, or n if none does
 pub record FirstBelow (f : ℕ → Bool) (n r : ℕ) : Type 0 where
   pub to : r ≤ n
   pub here : r < n → f r ≡ true
@@ -53,7 +54,7 @@ module _ (f : ℕ → Bool) where
         let not-more = not-before t r c a in
         omega arith
 
-    -- some number passes exactly when the first is below n
+    -- some number below n passes exactly when the first is below n
     pub first-some : firstBelow n f < n → anyBelow n f ≡ true
     first-some h = any-true n f .1 (firstBelow n f, h, first-below n .here h)
 

@@ -1,4 +1,4 @@
--- The joining rule: a code and a slot below one base give each other. The only laws that know that it is XOR.
+-- The joining rule: under one base a code determines its slot, and a slot its code. Only these laws know that the rule is XOR.
 use Prim.Native.Nat.{ℕ, zero, suc, _+_, _*_, _/_, _%_, _<_}
 use native.Mathlib.Nat.{mod-lt, zero-lt-suc, div-add-mod'}
 use native.Mathlib.Omega.{arith}
@@ -43,12 +43,12 @@ pub slot-of-code : (a s : ℕ) → slotUnder a (codeUnder a s) ≡ s
 unfolding codeUnder slotUnder
 slot-of-code a s = xor-back a s
 
--- an end lies at the base
+-- the slot of an end is the base
 pub slot-of-end : (a : ℕ) → slotUnder a 0 ≡ a
 unfolding slotUnder
 slot-of-end a = xor-zero-r a
 
--- the same of the slots of an image
+-- the same for the slots of an image
 module _ (b : List ℕ) (n : ℕ) where
   pub code-to-slot : (c : ℕ) → codeTo b n (slotFrom b n c) ≡ c
   unfolding codeTo slotFrom

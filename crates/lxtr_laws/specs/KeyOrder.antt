@@ -1,4 +1,4 @@
--- The order of keys, label by label: it is strict, and what two lists begin with together does not count.
+-- The order of keys, label by label: it is strict, and a common prefix of two lists does not count.
 use Prim.Native.Nat.{ℕ, _<_}
 use mathlib.Core.Path.{_≡_, refl, sym, ap, _∙_}
 use mathlib.Core.Logic.{_↔_, _⊎_, inl, inr}
@@ -11,7 +11,7 @@ use borrow.Author.Tests.{le-ltb, eq-eqb}
 use Rattle.lxtr_spec.specs.Labels.{comesBefore}
 use Rattle.lxtr_laws.specs.Tests.{or-is-true, and-is-true, ltb-is-true, eqb-is-true}
 
--- the first labels decide, or the rest does
+-- the first labels decide; if they are equal, the rest does
 pub first-or-rest : (x y : ℕ) (k l : List ℕ) → (comesBefore (x ∷ k) (y ∷ l) ≡ true) ↔ ((x < y) ⊎ ((x ≡ y) × (comesBefore k l ≡ true)))
 unfolding comesBefore
 first-or-rest x y k l = simp or-is-true (forth, back)

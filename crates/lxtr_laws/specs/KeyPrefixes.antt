@@ -1,5 +1,5 @@
 -- Lists of labels taken apart at their last label, and the prefixes of a set's keys.
--- A prefix's slot is reached through the slot one label shorter, so most proofs go by the last label.
+-- A prefix's slot is reached from the slot of the prefix one label shorter, so most proofs proceed by the last label.
 use Prim.Native.Nat.{ℕ, suc}
 use native.Mathlib.Numerals.{add-one}
 use native.Mathlib.Omega.{arith}
@@ -49,6 +49,6 @@ module _ (d : PairSet) where
       go (x ∷ p) r (inl e) = absurd (let z : _≡_ {A = ℕ} 0 1 = cc in omega arith)
       go p r (inr t) = record { is = inr (r ++ t .0, t .1, rw append-assoc at (t .2)) }
 
-  -- one with a label goes on to a key
+  -- a prefix that is not empty is the front part of some key
   pub prefix-on : (p : List ℕ) (x : ℕ) → Prefix d (p ++ x ∷ []) → GoesOn d (p ++ x ∷ [])
   prefix-on p x f = ⊎-elim (λ e. absurd (omega (arith, length-snoc p x, ap length e))) (λ g. g) (f .is)

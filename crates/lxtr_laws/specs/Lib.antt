@@ -1,5 +1,6 @@
--- Facts about the definitions of `lxtr_spec`, each stated once. Of these a reader of contracts meets the three records of Passed,
--- in private functions of `lxtr_complete` Accepted of Facts, and, of sorted tables, Sorted and placeBy of OrderedLists.
+-- Facts about the definitions of `lxtr_spec`, each stated once. A reader of contracts meets only the three records of Passed,
+-- `over` of Overlays, Accepted and `ancestor` of Facts (inside `lxtr_complete` and `lxtr_check_reach`), and, for sorted tables,
+-- Sorted and placeBy of OrderedLists.
 pub mod Tests
 pub mod RangeTests
 pub mod Firsts

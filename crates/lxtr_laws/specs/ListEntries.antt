@@ -1,4 +1,4 @@
--- What acceptance leaves known of the children lists: their places, entries and codes lie within the image.
+-- What is known of the children lists of an accepted image: their places, entries and codes are within bounds.
 use Prim.Native.Nat.{ℕ, _+_, _-_, _≤_, _<_}
 use mathlib.Core.Path.{_≡_, sym, _∙_}
 use mathlib.Core.Logic.{_≢_, inl, inr}
@@ -14,7 +14,7 @@ use Rattle.lxtr_laws.specs.Passed.{Whole, Passed}
 use Rattle.lxtr_laws.specs.Facts.{UsedFrom2, Used, UsedRight, EntryRight, Accepted}
 use Rattle.lxtr_laws.specs.EntryPlaces.{ListsSorted, list-of-place, in-array}
 
--- an entry has a parent
+-- an entry is a used slot from 2 up
 entry-used : {b : List ℕ} {p j : ℕ} → EntryRight b p j → UsedFrom2 b (child b j)
 entry-used {b} {p} {j} e = go (e .used)
   where
@@ -22,7 +22,7 @@ entry-used {b} {p} {j} e = go (e .used)
     go (inl z) = absurd (omega (arith, e .from))
     go (inr u) = u
 
--- Offsets that don't fall, and right entries: what rule 11 leaves known before its last three parts.
+-- Offsets that don't fall, and right entries: what is known once these two kinds of fault of rule 11 are ruled out.
 pub record EntriesRight (b : List ℕ) : Type 0 where
   pub passed : Passed b
   pub rising : (p : ℕ) → p < slotCount b → offset b p ≤ offset b (p + 1)
@@ -96,7 +96,7 @@ module _ {b : List ℕ} (ok : Accepted b) where
         child-right : UsedRight b (child b j)
         child-right = let e = ok .lists .entry n j slot place in ok .slots (child b j) (e .to) .used (entry-used e)
 
-        -- it is from 1 up to the number of labels
+        -- the code is from 1 up to the number of labels
         pub code-from : 1 ≤ c
         code-from =
             let is : isLeaf b (child b j) ≡ false = rw (← at) (outcome l _ _ leaf inner) in

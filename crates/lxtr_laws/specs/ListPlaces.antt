@@ -1,5 +1,5 @@
--- The places of a children list: those from its offset on, as many as it is wide.
--- Where offsets don't fall, they are places of the children array.
+-- The places of a children list: they start at its offset, and there are as many as its width.
+-- If offsets don't fall, they are places of the children array.
 use Prim.Native.Nat.{ℕ, zero, suc, _+_, _-_, _≤_, _<_}
 use native.Mathlib.Nat.{le-refl, add-zero}
 use native.Mathlib.Omega.{arith}

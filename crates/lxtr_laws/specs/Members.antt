@@ -1,5 +1,5 @@
 -- The members of a list by their places: each member has one, and in a sorted list it comes before the members at later places.
--- So a list without repetition of the numbers that pass a test is as long as their count.
+-- So a list of the numbers that pass a test, each once, is as long as their count.
 use Prim.Native.Nat.{ℕ, zero, suc, _<_}
 use native.Mathlib.Nat.{not-suc-le-zero}
 use native.Mathlib.Omega.{arith}
@@ -12,7 +12,7 @@ use Rattle.lxtr_spec.specs.Ranges.{countBelow}
 use Rattle.lxtr_laws.specs.Bijections.{count-of}
 use Rattle.lxtr_laws.specs.Sorted.{Sorted}
 
--- z is the default of places behind the end
+-- z is the default for places past the end
 module _ {A : Type 0} (z : A) where
   pub member-at : (l : List A) (i : ℕ) → i < length l → List·Memᴰ (getD l i z) l
   member-at [] i h = absurd (not-suc-le-zero h)

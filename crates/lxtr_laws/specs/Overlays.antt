@@ -1,4 +1,4 @@
--- Bytes laid over a room from a place on, as stores do it: one after the other, numbers, several numbers.
+-- Bytes written over a room, starting at a place, as stores do it: byte by byte, one number, several numbers.
 use Prim.Native.Nat.{ℕ, suc, _+_, _*_, _≤_, _<_}
 use mathlib.Core.Path.{_≡_, refl, sym, ap, _∙_}
 use mathlib.Core.List.{List, [], _∷_, _++_, append-assoc}
@@ -9,7 +9,7 @@ use lib.ListN.{length, take, drop, set, getD, length-append, length-take, length
 use lib.Seq.{sets, set-split, set-comm, take-at, drop-append-add, drop-drop, length-take-le, length-sets, sets-eq, take-suc}
 use Rattle.lxtr_laws.specs.ByteOrders.{ByteOrder, words-size, words-append, words-one}
 
--- the room with the bytes xs from a place on
+-- the room with the bytes xs, starting at a place
 unfoldable pub over : List ℕ → ℕ → List ℕ → List ℕ
 over room at xs = take at room ++ (xs ++ drop (at + length xs) room)
 
@@ -26,7 +26,7 @@ module _ (r : List ℕ) where
   unfolding over
   over-set i v h = rw add-one (set-split r i v h)
 
-  -- more bytes behind the first ones
+  -- more bytes after the first ones
   pub over-over : (at : ℕ) (xs ys : List ℕ) (i : ℕ) → i ≡ at + length xs → at + length xs ≤ length r → over (over r at xs) i ys ≡ over r at (xs ++ ys)
   unfolding over
   over-over at xs ys i e h =
@@ -47,7 +47,7 @@ module _ (r : List ℕ) where
   pub byte-before : (at x : ℕ) (ys r′ : List ℕ) → at < length r → r′ ≡ over (set r at x) (at + 1) ys → r′ ≡ over r at (x ∷ ys)
   byte-before at x ys r′ h e = e ∙ rw (over-set at x h) (over-over at (x ∷ []) ys (at + 1) refl (omega arith))
 
-  -- four bytes, as the stores of a number put them
+  -- four bytes, as the stores of a number write them
   pub four-put : (at x₀ x₁ x₂ x₃ : ℕ) → at + 4 ≤ length r
       → set (set (set (set r at x₀) (at + 1) x₁) (at + 2) x₂) (at + 3) x₃ ≡ over r at (x₀ ∷ x₁ ∷ x₂ ∷ x₃ ∷ [])
   unfolding over
@@ -55,7 +55,7 @@ module _ (r : List ℕ) where
       let xs : List ℕ = x₀ ∷ x₁ ∷ x₂ ∷ x₃ ∷ [] in
       rw (add-one, add-two, add-three) (sets-eq xs r at h ∙ append-assoc (take at r) xs (drop (at + 4) r))
 
--- stores that end before others start go in either order
+-- a store at an earlier place can be made before or after the others
 set-sets : (r : List ℕ) (i x j : ℕ) (ys : List ℕ) → i < j → set (sets r j ys) i x ≡ sets (set r i x) j ys
 set-sets r i x j [] h = refl
 set-sets r i x j (y ∷ ys) h = set-sets (set r j y) i x (suc j) ys (omega arith) ∙ ap (λ (l : List ℕ). sets l (suc j) ys) (set-comm r j i y x (λ e. omega arith))
@@ -74,7 +74,7 @@ over-comm r i xs j ys h l =
     rw (over-sets r i xs (omega arith), over-sets r j ys l)
     (over-sets (sets r i xs) j ys (omega (arith, length-sets r i xs)) ∙ sets-comm r i xs j ys h ∙ sym (over-sets (sets r j ys) i xs (omega (arith, length-sets r j ys))))
 
--- The first i of the numbers xs, written one after the other into the room r from a place on, are in the room r′.
+-- The room r′ is r with the first i of the numbers xs written into it, one after the other, starting at a place.
 abbrev pub WordsIn : (List ℕ → List ℕ) → List ℕ → List ℕ → ℕ → ℕ → List ℕ → Type 0
 WordsIn words r xs at i r′ = r′ ≡ over r at (words (take i xs))
 

@@ -1,4 +1,4 @@
--- What the header's refusals leave known of an image, as orders of numbers: reading an image takes no more than this.
+-- What is known of bytes once refusals 1 to 8 are ruled out, as equations and inequalities: reading an image needs no more.
 use Prim.Native.Nat.{ℕ, _+_, _*_, _≤_}
 use mathlib.Core.Path.{_≡_}
 use mathlib.Core.List.{List}
@@ -12,19 +12,19 @@ use Rattle.lxtr_laws.specs.Tests.{ltb-is-false, outcome}
 use Rattle.lxtr_laws.specs.RangeTests.{tests}
 use Rattle.lxtr_laws.specs.RefusalChains.{none-refused}
 
--- after refusals 1 to 5
+-- once refusals 1 to 5 are ruled out
 pub record Sized (b : List ℕ) : Type 0 where
   pub header : headerLength ≤ length b
   pub slots-from : minSlots ≤ slotCount b
   pub slots-to : slotCount b ≤ maxSlots
   pub children : childCount b + 2 ≤ slotCount b
 
--- after refusal 6
+-- once refusals 1 to 6 are ruled out
 pub record Whole (b : List ℕ) : Type 0 where
   pub sized : Sized b
   pub size : length b ≡ imageLength b
 
--- after refusal 8
+-- once refusals 1 to 8 are ruled out
 pub record Passed (b : List ℕ) : Type 0 where
   pub whole : Whole b
   pub labels : labelCount b ≤ maxListed

@@ -1,4 +1,4 @@
--- The labels of a query: how many there are, where the bytes of each lie, and the labels of a front part.
+-- The labels of a query: how many there are, where the bytes of each are, and the labels of a front part.
 use Prim.Native.Nat.{ℕ, zero, suc, _+_, _*_, _/_, _<_, _≤_}
 use mathlib.Core.Path.{_≡_, refl, sym, ap, _∙_}
 use mathlib.Core.List.{List}

@@ -1,4 +1,5 @@
--- Tests of all numbers below a bound: what the outcome says of each number. And what a range gives, taken apart at its last number.
+-- Tests of all numbers below a bound: what the outcome says of each number.
+-- And the joined lists of a range, taken apart at its last number.
 use Prim.Native.Nat.{ℕ, zero, suc, _+_, _-_, _≤_, _<_}
 use mathlib.Core.Path.{_≡_, refl, sym, ap, _∙_}
 use mathlib.Core.Logic.{_↔_, _⊎_, inl, inr, ⊎-elim}
@@ -11,7 +12,7 @@ use native.Mathlib.Decide.{decLt}
 use Rattle.lxtr_spec.specs.Ranges.{anyBelow, concatFrom}
 use Rattle.lxtr_laws.specs.Tests.{or-is-false, and-is-true, and-is-false, not-is-false, not-is-true, beq-is-true, ltb-is-true, ltb-is-false, leb-is-true, leb-is-false, eqb-is-true, eqb-is-false}
 
--- of the numbers from i up to n there is one more than from i + 1
+-- there is one number more from i up to n than from i + 1
 pub more : (n i : ℕ) → i < n → n - i ≡ suc (n - (i + 1))
 more n i h = omega arith
 
@@ -50,7 +51,7 @@ module _ (f : ℕ → Bool) where
       go true p = p
       go false p = absurd (let z : f i ≡ false = none-at n p i h in false≢true (rw z at t))
 
--- no number below n passes exactly when each fails; one does exactly when there is one
+-- `anyBelow` is false exactly when each number below n fails, and true exactly when one passes
 pub any-false : (n : ℕ) (f : ℕ → Bool) → (anyBelow n f ≡ false) ↔ ((i : ℕ) → i < n → f i ≡ false)
 any-false n f = (none-at f n, none-of f n)
 
@@ -60,9 +61,9 @@ any-true n f = (some-at f n, λ p. some-of f n (p .0) (p .1) (p .2))
 -- every law of a test's outcome, for `simp`
 pub ruleset tests = (or-is-false, and-is-true, and-is-false, not-is-false, not-is-true, beq-is-true, ltb-is-true, ltb-is-false, leb-is-true, leb-is-false, eqb-is-true, eqb-is-false, any-false)
 
--- what a range gives
+-- the joined lists of a range
 module _ {A : Type 0} (f : ℕ → List A) where
-  -- one more number gives its part at the end
+  -- one more number adds its list at the end
   pub concat-more : (n j : ℕ) → concatFrom (suc n) j f ≡ concatFrom n j f ++ f (j + n)
   unfolding concatFrom
   concat-more zero j = rw (append-nil, add-zero)
@@ -82,7 +83,7 @@ module _ {A : Type 0} (f : ℕ → List A) where
   concat-length zero j h = omega arith
   concat-length (suc n) j h = omega (arith, length-append (f j) (concatFrom n (j + 1) f), h j, concat-length n (j + 1) h)
 
-  -- fewer numbers give no more
+  -- fewer numbers give a list that is no longer
   concat-grows : (m k j : ℕ) → length (concatFrom m j f) ≤ length (concatFrom (m + k) j f)
   concat-grows m zero j = rw (add-zero m) (le-refl (length (concatFrom m j f)))
   concat-grows m (suc k) j =

@@ -30,7 +30,7 @@ be-first n r h = turn (n % 256) (n / 2 ^ 8 % 256) (n / 2 ^ 16 % 256) (n / 2 ^ 24
     turn : (d0 d1 d2 d3 : ℕ) → d0 + d1 * 2 ^ 8 + d2 * 2 ^ 16 + d3 * 2 ^ 24 ≡ n → d3 * 2 ^ 24 + d2 * 2 ^ 16 + d1 * 2 ^ 8 + d0 ≡ n
     turn d0 d1 d2 d3 e = omega arith
 
--- behind other bytes
+-- after other bytes
 past : (a r : List ℕ) (i k : ℕ) → getD (a ++ r) (length a + i + k) 0 ≡ getD r (i + k) 0
 past a r i k = let e : length a + i + k ≡ length a + (i + k) = omega arith in ap (λ (n : ℕ). getD (a ++ r) n 0) e ∙ getD-append-add a r (i + k) 0
 

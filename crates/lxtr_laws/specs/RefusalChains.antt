@@ -14,7 +14,7 @@ pub refused : (t : Bool) (k later : ℕ) → t ≡ true → k ≡ refuseIf t k l
 unfolding refuseIf
 refused t k later e = rw e
 
--- one that is not leaves the answer to what comes after
+-- one that is not there leaves the answer to what comes after it
 pub goes-on : (t : Bool) (k later n : ℕ) → t ≡ false → n ≡ later → n ≡ refuseIf t k later
 unfolding refuseIf
 goes-on t k later n e h = rw e h
@@ -30,16 +30,16 @@ unfolding firstRefusal
 none-first zero later = (λ e. (refl, e), λ p. p .1)
 none-first (suc n) later = (λ e. absurd (omega arith), λ p. absurd (omega arith))
 
--- what a `return` in a chain of tests is shown by: faults that are not there, and one that is
+-- the laws for a `return` in a chain of tests: faults that are not there, and one that is
 pub ruleset chain = (refused, goes-on, outcome)
 
--- a refusal stands in front of what comes after it
+-- a refusal is answered whatever comes after it
 pub first-stands : (n later : ℕ) → (n ≡ 0 → ⊥) → firstRefusal n later ≡ n
 unfolding firstRefusal
 first-stands zero later h = absurd (h refl)
 first-stands (suc n) later h = refl
 
--- and in place of an answer
+-- after a refusal the other answer is given
 pub stands {ℓ} : {A : Type ℓ} (n : ℕ) (answer other : A) → (n ≡ 0 → ⊥) → unlessRefused n answer other ≡ other
 unfolding unlessRefused
 stands zero answer other h = absurd (h refl)

@@ -1,4 +1,4 @@
--- What a refusal from 9 on says: 1 to 8 are passed, and so are the rules before it, and its own is not.
+-- What a refusal from 9 up says: 1 to 8 and the rules before its own are passed, and its own is not.
 use Prim.Native.Nat.{ℕ, zero, suc, _≤_}
 use mathlib.Core.Path.{_≡_, refl}
 use mathlib.Core.Logic.{_≢_}
@@ -8,7 +8,7 @@ use native.Mathlib.Omega.{arith}
 use Rattle.lxtr_spec.specs.Refusals.{refuseIf, firstRefusal, tooShort, magicDiffers, versionWrong, reservedSet, sizesWrong, lengthWrong, mapWrong, offsetEndsWrong, headerRefusal, labelsWrong, slotsWrong, listsWrong, someUnreachable, bodyRefusal, imageRefusal}
 use Rattle.lxtr_laws.specs.Passed.{Passed, header-passed}
 
--- a chain answers no number above all of its numbers, and none that it has not
+-- a chain answers no number above all of its numbers, and none that it does not have
 most : (t : Bool) (k later n : ℕ) → k ≤ n → later ≤ n → refuseIf t k later ≤ n
 unfolding refuseIf
 most true k later n h l = h
@@ -19,7 +19,7 @@ unfolding refuseIf
 other true k later n h l = h
 other false k later n h l = l
 
--- the number of a later test: this one finds nothing. And its own number
+-- if the answer is not a test's own number, the test finds nothing; if it is no later test's, the test finds its fault
 later-one : (t : Bool) (k later n : ℕ) → k ≢ n → refuseIf t k later ≡ n → (t ≡ false) × (later ≡ n)
 unfolding refuseIf
 later-one true k later n h e = absurd (h e)
@@ -65,7 +65,7 @@ module _ (b : List ℕ) where
   unfolding imageRefusal
   refusal-most = first-most (headerRefusal b) (bodyRefusal b) 12 (omega (arith, header-most)) body-most
 
-  -- from 9 on
+  -- from 9 up
   module _ (k : ℕ) (h : 9 ≤ k) (e : imageRefusal b ≡ k) where
     parts : (headerRefusal b ≡ 0) × (bodyRefusal b ≡ k)
     unfolding imageRefusal
@@ -74,7 +74,7 @@ module _ (b : List ℕ) where
     pub refused-passed : Passed b
     refused-passed = header-passed (parts .0)
 
-    -- the refusals that are left where no label, no slot and no list is wrong
+    -- from 10 up no label is wrong, from 11 up no slot is, and the refusal comes from the later rules
     labels-passed : 10 ≤ k → (labelsWrong b ≡ false) × (refuseIf (slotsWrong b) 10 (refuseIf (listsWrong b) 11 (refuseIf (someUnreachable b) 12 0)) ≡ k)
     unfolding bodyRefusal
     labels-passed l = later-one (labelsWrong b) 9 _ k (λ z. omega arith) (parts .1)

@@ -1,5 +1,6 @@
--- What the numbers j, j + 1, .. give, one after the other: the members come from there, and they are in order where each part is.
--- The pairs below a slot are such a run over the places of its list, the prefixes of a query one over their lengths.
+-- A run: the lists that the numbers j, j + 1, .. give, joined. Each member comes from one of these parts, and the run is in order
+-- if each part is and members of earlier parts come first. The pairs below a slot are a run over the places of its list, the
+-- prefixes of a query one over their lengths.
 use Prim.Native.Nat.{ℕ, zero, suc, _+_, _-_, _≤_, _<_}
 use native.Mathlib.Decide.{decLt}
 use native.Mathlib.Omega.{arith}
@@ -54,7 +55,7 @@ module _ {A : Type 0} where
         let g : j + suc k ≡ j + 1 + k = omega arith in
         rw (e, g, concatFrom, run-split k m (j + 1)) (sym (append-assoc (f j) (concatFrom k (j + 1) f) (concatFrom m (j + 1 + k) f)))
 
-    -- an entry of part k stands as far behind the parts before it as in its part
+    -- entry i of part k is entry i after all the parts before it
     pub run-entry : (n j k i : ℕ) (z : A) → k < n → i < length (f (j + k)) → getD (concatFrom n j f) (length (concatFrom k j f) + i) z ≡ getD (f (j + k)) i z
     unfolding concatFrom
     run-entry n j k i z h l =
@@ -65,6 +66,6 @@ module _ {A : Type 0} where
         ∙ getD-append-add (concatFrom k j f) (f (j + k) ++ rest) i z
         ∙ List·getD-append (f (j + k)) rest z i l
 
-    -- one part more adds its entries
+    -- one more part adds its entries
     pub run-more : (k j : ℕ) → length (concatFrom (k + 1) j f) ≡ length (concatFrom k j f) + length (f (j + k))
     run-more k j = rw (add-one k) (ap (λ (l : List A). length l) (concat-more f k j) ∙ length-append (concatFrom k j f) (f (j + k)))

@@ -1,4 +1,4 @@
--- A loop that looks at each number below a bound m for the first that passes a test f. So far it has come to i: none below i passes.
+-- A loop over the numbers below a bound m that looks for the first that passes a test f. It has come to i: none below i passes.
 use Prim.Native.Nat.{ℕ, _+_, _≤_, _<_}
 use mathlib.Core.Path.{_≡_, refl, sym}
 use mathlib.Core.Bool.{Bool, true, false}
@@ -31,7 +31,7 @@ module _ (f : ℕ → Bool) (m : ℕ) where
       pub scan-end : m ≤ i → false ≡ anyBelow bound f
       scan-end h = let e : i ≡ bound = omega (arith, s .to) in sym (rw e at (s .none))
 
-      -- the same where the answer is the number itself, or the bound where none passes
+      -- the same if the answer is the number itself, or the bound if none passes
       pub scan-first : (r : Bool) → i < m → r ≡ f i → r ≡ true → i ≡ firstBelow bound f
       scan-first r h e t = one-first f bound i (firstBelow bound f) (record { to = omega arith; here = λ _. outcome r _ _ e t; none = any-false i f .0 (s .none) }) (first-below f bound)
 

@@ -1,4 +1,4 @@
--- The searches as the code makes them: first the refusals, and then an answer that is the definition's.
+-- The searches as the code makes them: first the refusals, then the definition's answer.
 use Prim.Native.Nat.{ℕ, _*_, _%_}
 use mathlib.Core.Path.{_≡_, refl, sym, _∙_}
 use mathlib.Core.Logic.{_↔_}

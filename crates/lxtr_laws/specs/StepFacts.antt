@@ -1,4 +1,4 @@
--- Steps, walks and values as facts: what holds where a step, a walk or exact search finds something.
+-- Steps, walks and values as facts: what holds when a step, a walk or exact search finds something.
 -- A walk along two lists is two walks, so a walk can be taken apart at its last label.
 use Prim.Native.Nat.{ℕ, _<_}
 use mathlib.Core.Path.{_≡_, refl, sym, ap, _∙_}
@@ -25,7 +25,7 @@ pub record Stepped (b : List ℕ) (n c t : ℕ) : Type 0 where
 pub step-code : {b : List ℕ} {n c t : ℕ} → Stepped b n c t → codeTo b n t ≡ c
 step-code {b} {n} {c} s = ap (codeTo b n) (s .at) ∙ code-to-slot b n c
 
--- so one code reaches one slot
+-- so only one code reaches a slot
 pub one-code : {b : List ℕ} {n c e t : ℕ} → Stepped b n c t → Stepped b n e t → c ≡ e
 one-code r s = sym (step-code r) ∙ step-code s
 
@@ -55,7 +55,7 @@ none-not-some {v} = Option·none-ne-some v
 pub some-same : {m n : ℕ} → _≡_ {A = Option ℕ} (some m) (some n) → m ≡ n
 some-same e = cc
 
--- an answer under a condition, and one made of two
+-- an answer under a condition, and an answer that needs an earlier one
 cond-some : (a : Bool) (x t : ℕ) → (cond a (some x) none ≡ some t) ↔ ((a ≡ true) × (x ≡ t))
 cond-some true x t = (λ e. (refl, some-same e), λ p. ap {B = Option ℕ} some (p .1))
 cond-some false x t = (λ e. absurd (none-not-some e), λ p. absurd (false≢true (p .0)))
@@ -139,7 +139,7 @@ module _ (b : List ℕ) where
       go none = (λ e. absurd (none-not-some e), λ r. absurd (none-not-some (r .1)))
       go (some n) = (λ e. (n, refl, value-is n v .0 e), λ r. value-is n v .1 (rw (some-same (r .1)) (r .2)))
 
-  -- from where a walk comes to, as many steps to the parent as it has labels lead back to slot 1
+  -- from the slot that a walk reaches, as many steps to the parent as the walk has labels lead back to slot 1
   ancestor-last : (p : List ℕ) → Last p → (n : ℕ) → walk b 1 p ≡ some n → ancestor b (length p) n ≡ 1
   unfolding ancestor
   ancestor-last p empty n e = sym (walk-empty n .0 e)

@@ -15,7 +15,7 @@ use Rattle.lxtr_spec.specs.declared.Found.the-variants.{Is, Nothing}
 use Rattle.lxtr_laws.specs.Tests.{outcome, not-is-true, not-is-false}
 use Rattle.lxtr_laws.specs.StepFacts.{step-is}
 
--- what an answer that was matched on says
+-- what an answer says once it has been matched on
 pub found-is : (f : Found) (t : ℕ) (o : Option ℕ) → found f ≡ o → f ≡ Is t → o ≡ some t
 found-is f t o e h = sym e ∙ ap found h
 

@@ -1,4 +1,4 @@
--- A loop that counts the numbers below a bound m that pass a test f. So far it has come to i: n of those below i pass.
+-- A loop that counts the numbers below a bound m that pass a test f. It has come to i: n of those below i pass.
 use Prim.Native.Nat.{ℕ, _+_, _^_, _≤_, _<_}
 use mathlib.Core.Path.{_≡_, refl}
 use mathlib.Core.List.{List}

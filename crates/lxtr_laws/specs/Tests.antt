@@ -1,5 +1,5 @@
 -- Tests: each outcome of a test is a fact, and the fact is that outcome, stated both ways as `↔`.
--- `simp tests` (of Ranges) so turns a fault that is not there, whatever it is joined of, into the facts that this leaves, and back.
+-- So `simp tests` (of RangeTests) turns "this fault is not there", however the fault is composed, into facts, and back.
 use Prim.Native.Nat.{ℕ, _≤_, _<_}
 use mathlib.Core.Path.{_≡_, refl, sym, _∙_}
 use mathlib.Core.Logic.{_↔_, _≢_, _⊎_, inl, inr}
@@ -60,12 +60,12 @@ eqb-is-true m n = (eqb-true m n, eq-eqb m n)
 pub eqb-is-false : (m n : ℕ) → (eqb m n ≡ false) ↔ (m ≢ n)
 eqb-is-false m n = (eqb-false m n, ne-eqb m n)
 
--- a test that cannot hold does not
+-- a test that cannot be true is false
 pub is-false : (t : Bool) → (t ≡ true → ⊥) → t ≡ false
 is-false true h = absurd (h refl)
 is-false false h = refl
 
--- two tests that hold together are one
+-- two tests that imply each other are equal
 pub same-test : (s t : Bool) → (s ≡ true → t ≡ true) → (t ≡ true → s ≡ true) → s ≡ t
 same-test true t f g = sym (f refl)
 same-test false true f g = g refl
@@ -75,7 +75,7 @@ same-test false false f g = refl
 pub outcome : (r t a : Bool) → r ≡ t → r ≡ a → t ≡ a
 outcome r t a e h = sym e ∙ h
 
--- what both branches keep to, the choice keeps to
+-- a bound of both branches is a bound of the choice
 pub cond-within : (t : Bool) (m n most : ℕ) → m ≤ most → n ≤ most → cond t m n ≤ most
 cond-within true m n most h l = h
 cond-within false m n most h l = l

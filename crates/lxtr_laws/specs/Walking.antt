@@ -1,5 +1,5 @@
 -- A walk as a loop makes it: n is the slot that the first i of the labels xs reach.
--- Where the step by the next label fails, no longer front part of xs reaches a slot.
+-- If the step by the next label fails, no longer front part of xs reaches a slot.
 use Prim.Native.Nat.{ℕ, _+_, _≤_, _<_}
 use mathlib.Core.Path.{_≡_, refl, sym, ap, _∙_}
 use mathlib.Core.Logic.{_↔_}
@@ -29,7 +29,7 @@ pub record Walked (b xs : List ℕ) (i n : ℕ) : Type 0 where
   pub below : n < slotCount b
   pub reached : walk b 1 (take i xs) ≡ some n
 
--- what cannot be found is not there
+-- an answer that is no slot is none
 is-none : (o : Option ℕ) → ((t : ℕ) → o ≡ some t → ⊥) → o ≡ none
 is-none none h = refl
 is-none (some t) h = absurd (h t refl)

@@ -19,7 +19,7 @@ pub run-examples-hold : AllHold run-examples
 unfolding run-examples computing
 run-examples-hold = refl and refl and refl and refl and refl and tt
 
--- A label counts once for each key that contains it, however often it stands there: 62 is in two keys, 61 and 63 in one each.
+-- A label counts once for each key that contains it, however often it occurs there: 62 is in two keys, 61 and 63 in one each.
 pub codes-by-keys : AllHold (lists-labels ((0x61 ∷ 0x61 ∷ []) ∷ (0x62 ∷ []) ∷ (0x62 ∷ 0x63 ∷ []) ∷ []) (0x62 ∷ 0x61 ∷ 0x63 ∷ []) ∷ [])
 unfolding computing
 codes-by-keys = refl and tt

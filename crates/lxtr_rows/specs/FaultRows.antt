@@ -22,7 +22,7 @@ faults =
     ∷ fault-at p8-check (Slot 3) 0xA00_0000_0003 ∷ fault-at p8-slot (Slot 5) 0xA00_0000_0005
     ∷ fault-at p7 (Entry 3 2) 0xB08_0000_0002
     ∷ fault-at p10 (Unreachable 2) 0xC00_0000_0002
-    -- P3 with offsets 0 4 1; a slot in no list; a slot that is no leaf and has no child; no keys, and a base
+    -- P3 with offsets 0 4 1; a slot in no list; a slot that is not a leaf and has no child; no keys, and a base
     ∷ fault-at (imageBytes nodes3 (set offsets3 1 4) children3 labels3) (Offset 1) 0xB04_0000_0001
     ∷ fault-at (lacking (3 ∷ 4 ∷ 2 ∷ [])) (Unlisted 6) 0xB0C_0000_0006
     ∷ fault-at (imageBytes (0 ∷ 0 ∷ 3 ∷ 0 ∷ 0 ∷ 1 ∷ []) (0 ∷ 0 ∷ 1 ∷ 1 ∷ []) (2 ∷ []) (0x61 ∷ [])) (Childless 2) 0xB10_0000_0002

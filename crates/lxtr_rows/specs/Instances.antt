@@ -1,6 +1,6 @@
--- What the demands rule out, of every possible program. In a module, o is any program that meets the demand, whatever else it does: over an
--- image it answers what the definitions answer. So the programs that document 01 names under "What the promises rule out" fail.
--- Then what is ruled out of code maps and of places of faults.
+-- What the demands rule out, for every possible program. In each module, o is any program that meets the demand, whatever else it
+-- does: over an image it answers what the definitions answer. So the programs that document 01 names under "What the promises rule
+-- out" fail. Then what is ruled out for code maps and for places of faults.
 use Prim.Native.Nat.{ℕ, zero, suc, _%_, _≤_, _<_}
 use native.Mathlib.Omega.{arith}
 use mathlib.Core.Path.{_≡_, refl, sym, ap, _∙_, subst}
@@ -82,11 +82,12 @@ unfolding computing
 p11-counts = refl
 
 module _ (o : Operations) (meets : (b : List ℕ) → Demand3 o b) where
-  -- Over an image no other verdict meets it.
+  -- Over an image no other verdict meets the demand.
   pub only-check : (b : List ℕ) → IsImage b → o .check b ≡ checkOf b
   only-check b (d, image) = let (ps, are) = meets b .listing d image in meets b .answer d ps image are ∙ sym (demand3 b .answer d ps image are)
 
-  -- A check that refuses an image, or accepts what is none, fails: so does one that refuses all, on P3, and one that accepts all, on P10.
+  -- A check that refuses an image, or accepts what is not an image, fails. So does one that refuses all, on P3, and one that
+  -- accepts all, on P10.
   pub refused-image-fails : (b : List ℕ) → IsImage b → o .check b .refusal ≢ 0 → ⊥
   refused-image-fails b image refuses = refuses (meets b .passes .1 image)
 
@@ -99,8 +100,8 @@ module _ (o : Operations) (meets : (b : List ℕ) → Demand3 o b) where
   pub accepts-all-fails : ((b : List ℕ) → o .check b .refusal ≡ 0) → ⊥
   accepts-all-fails accepts = accepted-other-fails p10 p10-is-none (accepts p10)
 
-  -- A made-up pair count fails: any number that is not that of the set's pairs. So does the same number for every image, and the number of
-  -- used slots.
+  -- A made-up pair count fails: any number that is not that of the set's pairs. So does the same number for every image, and the
+  -- number of used slots from 2 up.
   pub made-up-count-fails : (b : List ℕ) (d : PairSet) (ps : List Pair) → ImageOf b d → Lists b d [] ps → o .check b .pairs ≢ length ps → ⊥
   made-up-count-fails b d ps image are other = other (ap (λ (v : Verdict). v .pairs) (meets b .answer d ps image are))
 
@@ -174,7 +175,7 @@ same-probes a b k v l =
     (subst (λ (n : Bool). a ≡ record { refusal = a .refusal; value = a .value; longer = n }) l refl))
 
 module _ (o : Operations) (meets : Demand2 o) where
-  -- Over an image no other answer to a query of whole labels meets it.
+  -- Over an image no other answer to a query of whole labels meets the demand.
   pub only-exact : (b q : List ℕ) → IsImage b → length q % 4 ≡ 0 → o .exact b q ≡ exactOf b q
   only-exact b q (d, image) whole = meets b d q image whole .searched .exact ∙ sym (demand2 b d q image whole .searched .exact)
 
@@ -244,8 +245,8 @@ module _ (o : Operations) (meets : Demand2 o) where
   idle-completion-fails idle =
       omega (arith, version-written, ap (λ (r : List ℕ). getD r 0 0) (idle (blank 40)), ap (λ (a : CompletionAnswer). getD (a .room) 0 0) (only-complete p11 [] (blank 40) p11-is-image refl (omega arith)))
 
-  -- A made-up completion count fails: any number that is not that of the records written. So does the same number whatever the room. (The
-  -- count that is written into the room is among what only-complete says.)
+  -- A made-up completion count fails: any number that is not that of the records that fit. So does the same number whatever the
+  -- room. (The count that is written into the room is part of what only-complete says.)
   pub made-up-completion-count-fails : (b : List ℕ) (d : PairSet) (q room : List ℕ) (ps fit : List Pair) → ImageOf b d → length q % 4 ≡ 0 → Lists b d (labelsOf q) ps
       → 5 ≤ length room → FittingFront (length room) ps fit → o .complete b q room .answer .count ≢ length fit → ⊥
   made-up-completion-count-fails b d q room ps fit image whole are h front other =
@@ -260,7 +261,7 @@ module _ (o : Operations) (meets : Demand2 o) where
 
 -- ---- demand 2: the builder
 
--- bytes that an image does not begin with
+-- if bytes do not begin with `L`, no front part of them does
 other-front : (m : ℕ) (out : List ℕ) → getD out 0 0 ≢ 0x4C → getD (take m out) 0 0 ≢ 0x4C
 other-front zero out other e = omega arith
 other-front (suc m) [] other e = omega arith
@@ -281,14 +282,14 @@ module _ (o : Operations) (meets : Demand2Builder o) where
   abbrev writes : List ℕ → List ℕ → List ℕ → List ℕ
   writes keys work out = take (o .build keys work out .answer .length) (o .build keys work out .output)
 
-  -- Where nothing is refused, something is written: an output that does not begin with `L` is no image as it is.
+  -- If nothing is refused, something is written: an output that does not begin with `L` is not an image as it is.
   pub unwritten-fails : (keys work out : List ℕ) → getD out 0 0 ≢ 0x4C → o .build keys work out .answer .refusal ≡ 0 → o .build keys work out .output ≡ out → ⊥
   unfolding magic
   unwritten-fails keys work out other e idle =
       let begins = meets keys work out e .image-of .framed .magic-bytes 0 (omega arith) in
       other-front (o .build keys work out .answer .length) out other (subst (λ (l : List ℕ). getD (take (o .build keys work out .answer .length) l) 0 0 ≡ 0x4C) idle begins)
 
-  -- Where a key has a label, some slot has a parent other than slot 1: the key's end, for one.
+  -- If a key has a label, some slot has a parent other than slot 1: the key's end, for one.
   pub one-level-fails : (keys work out k : List ℕ) (x v : ℕ) → List·Memᴰ (k ++ x ∷ [], v) (pairsOf keys) → o .build keys work out .answer .refusal ≡ 0
       → ((s : ℕ) → 2 ≤ s → s < slotCount (writes keys work out) → parent (writes keys work out) s ≤ 1) → ⊥
   one-level-fails keys work out k x v m e low =
@@ -300,8 +301,9 @@ module _ (o : Operations) (meets : Demand2Builder o) where
       let end = placed .end-in key v has in
       omega (arith, low (back .image-of .end key) (end .0) (end .1), placed .end-parent key v has, placed .slot-in k x is-prefix .0)
 
-  -- So of the builders that refuse what document 01 refuses and nothing else, one that writes nothing fails, and one that places slot 1's
-  -- children and no more. (One that refuses more has nothing to read back; the equation of `build` rules it out.)
+  -- So, among the builders that refuse what document 01 refuses and nothing else, one that writes nothing fails, and so does one
+  -- that places slot 1's children and no more. (One that refuses more has nothing to read back; the equation of `build` rules it
+  -- out.)
   module _ (refuses : (keys work out : List ℕ) → o .build keys work out .answer .refusal ≡ buildOf keys work out .answer .refusal) where
     builds : o .build keys3 (blank 14) (blank 141) .answer .refusal ≡ 0
     builds = refuses keys3 (blank 14) (blank 141) ∙ builds3 .0

@@ -1,5 +1,5 @@
--- Readings of document 01 that none of its examples shows: the order of refusals, a stop for want of room, the limit, and walks over images
--- that pass 1 to 8 alone.
+-- Readings of document 01 that none of its examples shows: the order of refusals, a stop for want of room, the limit, and walks
+-- over images that pass only 1 to 8.
 use Prim.Native.Nat.{ℕ, _+_, _-_, _*_}
 use mathlib.Core.Path.{refl}
 use mathlib.Core.List.{List, [], _∷_, _++_}
@@ -12,7 +12,7 @@ use Rattle.lxtr_spec.specs.Builds.{imageBytes}
 use Rattle.lxtr_spec.specs.Samples.{nodes3, offsets3, children3, labels3, p3, p7, p9-labels, p9-longer, p11}
 use Rattle.lxtr_demands.specs.Rows.{Example, refused, exact, prefixes, prefix-words, longest, probe, query-refused, completion-refused, completion-stops, AllHold, _and_, computing}
 
--- slot 1 is its own child by code 1, and slot 0 its end: any number of labels 61 walks
+-- slot 1 is its own child by code 1, and slot 0 is its end: a walk can take any number of labels 61
 unfoldable pub own-child : List ℕ
 own-child = imageBytes (0x80000005 ∷ 1 ∷ 0 ∷ 0x80000001 ∷ []) (0 ∷ 0 ∷ 0 ∷ []) [] (0x61 ∷ [])
 
@@ -37,7 +37,8 @@ readings =
     ∷ refused (imageBytes (set nodes3 7 1) offsets3 children3 (set labels3 1 0x6E)) 9
     ∷ refused (imageBytes (set nodes3 7 1) offsets3 (set children3 2 4) labels3) 10
     ∷ refused (imageBytes (0 ∷ 0 ∷ 0 ∷ 0 ∷ 2 ∷ 3 ∷ 3 ∷ 2 ∷ []) (0 ∷ 0 ∷ 0 ∷ 1 ∷ 2 ∷ []) (2 ∷ 3 ∷ []) (0x61 ∷ [])) 11
-    -- an end without HAS_LEAF; an end that is no leaf; a leaf has no steps; offsets that fall; a label that is not listed; one listed twice
+    -- an end without HAS_LEAF; an end that is not a leaf; a leaf has no steps; offsets that fall; a label that is not listed; one
+    -- listed twice
     ∷ exact (imageBytes (0 ∷ 0 ∷ 2 ∷ 0 ∷ 0x80000005 ∷ 1 ∷ []) (0 ∷ 0 ∷ 1 ∷ 1 ∷ []) (2 ∷ []) []) [] none 0
     ∷ exact (imageBytes (0 ∷ 0 ∷ 2 ∷ 0x80000000 ∷ 5 ∷ 1 ∷ []) (0 ∷ 0 ∷ 1 ∷ 1 ∷ []) (2 ∷ []) []) [] none 0
     ∷ probe (imageBytes (0 ∷ 0 ∷ 0x80000002 ∷ 0 ∷ 0 ∷ 0 ∷ 0 ∷ 1 ∷ []) (0 ∷ 0 ∷ 0 ∷ 0 ∷ 1 ∷ []) (2 ∷ []) (0x61 ∷ [])) (0x61 ∷ []) none false 0

@@ -1,5 +1,5 @@
--- Demand 2 for the builder, from its parts: what is built is an image of the set of the key list's pairs, and of an image the searches,
--- the check and completion answer what its set says.
+-- Demand 2 for the builder, from its parts: what is built is an image of the set of the key list's pairs, and over an image the
+-- searches, the check and completion answer what its set says.
 use Prim.Native.Nat.{ℕ, _*_, zero, suc, _%_, _^_, _≤_, _<_}
 use native.Mathlib.Omega.{arith}
 use mathlib.Core.Path.{_≡_, refl, sym, ap, _∙_, subst}
@@ -44,7 +44,7 @@ use Rattle.lxtr_demands.specs.Laws.Demand2.{exact-set, demand2}
 use Rattle.lxtr_laws.specs.ReadBack.{be-words}
 use Rattle.lxtr_demands.specs.Laws.BuiltImages.{scalar-small, image-of-work}
 
--- the labels of a query are those that it was written for
+-- a query written for these labels has these labels
 labels-back : (k : List ℕ) → ((i : ℕ) → i < length k → getD k i 0 < 2 ^ 32) → labelsOf (beWords k) ≡ k
 labels-back k small =
     let count : length (labelsOf (beWords k)) ≡ length k = omega (arith, label-count (beWords k), words-length k) in
@@ -52,7 +52,7 @@ labels-back k small =
     let l : i < length k = omega arith in
     sym (label-read (beWords k) i h (getD k i 0) (sym (be-words k [] i l (small i l)) ∙ ap (λ (b : List ℕ). be32 b (4 * i)) (append-nil (beWords k)))))
 
--- keys in ascending order differ
+-- keys in ascending order are sorted, so they differ
 ascending-sorted : (ps : List Pair) → Ascending ps → Sorted (λ p r. comesBefore (p .0) (r .0) ≡ true) ps
 unfolding Ascending Sorted
 ascending-sorted [] a = tt
@@ -132,7 +132,7 @@ of-fits S w (c ∷ cs) b f = simp tests (
   of-fits S w cs b (record { base-in = f .base-in; slot-from = λ e m. f .slot-from e (List·Memᴰ·tail m); slot-to = λ e m. f .slot-to e (List·Memᴰ·tail m); slot-free = λ e m. f .slot-free e (List·Memᴰ·tail m) }),
 )
 
--- a base that fits, before which none does
+-- a base that fits, and no smaller one does
 smallest-fit : (S : ℕ) (w cs : List ℕ) (b : ℕ) → b < baseCount → Smallest S w cs 0 b → SmallestFit S w cs b
 smallest-fit S w cs b h s = record {
   fits = fits-of S w cs b h (s .fit);

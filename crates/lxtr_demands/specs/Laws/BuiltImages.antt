@@ -1,4 +1,4 @@
--- The image of a work that a key list's pairs are placed in is an image of the set of these pairs.
+-- If the pairs of a key list are placed in a work, the image of that work is an image of the set of these pairs.
 use Prim.Native.Nat.{ℕ, _+_, _*_, _-_, _/_, _%_, _^_, _≤_, _<_}
 use native.Mathlib.Decide.{ℕ-discrete}
 use native.Mathlib.Omega.{arith}

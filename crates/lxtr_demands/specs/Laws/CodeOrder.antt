@@ -1,5 +1,5 @@
 -- Lists of pairs in code order: the order of the lists of their keys' codes.
--- The pairs of a set whose keys begin with some labels are one list in this order.
+-- The pairs of a set whose keys begin with given labels form only one list in this order.
 use Prim.Native.Nat.{ℕ, _<_}
 use native.Mathlib.Nat.{not-suc-le-zero}
 use mathlib.Core.Path.{_≡_, refl, sym, subst}

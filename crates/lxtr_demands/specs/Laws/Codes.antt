@@ -1,4 +1,4 @@
--- A listed label's code is found by the search from the map's first place on, since no label is listed twice.
+-- The search that starts at the map's first place finds a listed label's code, since no label is listed twice.
 -- What the search finds is a code of the label.
 use Prim.Native.Nat.{ℕ, zero, suc, _+_, _-_, _≤_, _<_}
 use native.Mathlib.Nat.{not-suc-le-zero, zero-add}
@@ -14,7 +14,7 @@ use Rattle.lxtr_spec.specs.Image.{labelCount, labelAt, labelOfCode, codeOf, cod
 use Rattle.lxtr_spec.specs.Sets.{Listed, Framed}
 
 module _ (b : List ℕ) (x : ℕ) where
-  -- what a look at the n places from i on finds
+  -- what the search of the n places starting at i finds
   found : (n i c : ℕ) → codeFrom b x n i ≡ some c → (i < c) × (c ≤ i + n) × (labelAt b (c - 1) ≡ x)
   unfolding codeFrom
   found zero i c e = absurd (let z : _≡_ {A = ℕ} 0 1 = cc in omega arith)
@@ -29,7 +29,7 @@ module _ (b : List ℕ) (x : ℕ) where
           (omega arith, omega arith, rw l (eqb-true _ _ t))
       go ih false t f = let r = ih f in (omega arith, omega arith, r .2)
 
-  -- a label that stands at place i + m, and at no place before it, is found there
+  -- a label that is at place i + m, and at no place before it, is found there
   finds : (n i m : ℕ) → m < n → labelAt b (i + m) ≡ x → ((j : ℕ) → j < i + m → labelAt b j ≢ x) → codeFrom b x n i ≡ some (i + m + 1)
   unfolding codeFrom
   finds zero i m h e d = absurd (not-suc-le-zero h)
@@ -52,6 +52,6 @@ module _ (b : List ℕ) (x : ℕ) where
       rw k at (finds (labelCount b) 0 (c - 1) (omega (arith, l .from, l .to)) (rw e (l .label))
       (λ j h p. let s : j ≡ c - 1 = f .distinct j (c - 1) (omega (arith, l .to)) (omega (arith, l .from, l .to)) (p ∙ sym (l .label)) in omega arith))
 
--- two labels with one code are one
+-- two labels with the same code are equal
 pub listed-same : (b : List ℕ) (x y c : ℕ) → Listed b x c → Listed b y c → x ≡ y
 listed-same b x y c p q = sym (p .label) ∙ q .label

@@ -1,5 +1,5 @@
--- Completion of an image lists, for any query, the pairs of the set whose keys begin with its labels, as far as there is room.
--- Where the labels lead nowhere there are none.
+-- Completion over an image lists, for any query, the pairs of the set whose keys begin with its labels, as far as there is room.
+-- If the labels lead nowhere, there are none.
 use Prim.Native.Nat.{ℕ, _+_, _-_, _%_, _≤_}
 use native.Mathlib.Omega.{arith}
 use mathlib.Core.Path.{_≡_}

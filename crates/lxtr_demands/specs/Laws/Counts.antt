@@ -1,4 +1,4 @@
--- The check counts the pairs: the ends among the slots are as many as the pairs of the set in a list.
+-- The check counts the pairs: there are as many ends among the slots as pairs in a list of the set.
 -- The end of a key is the slot that stands for the pair; different keys have different ends, and every end counted is a key's.
 use Prim.Native.Nat.{ℕ, _<_}
 use native.Mathlib.Omega.{arith}
@@ -44,7 +44,7 @@ module _ {b : List ℕ} {d : PairSet} (known : KnownImage b d) where
   counted-end (leaf k v h) u t = (k, v, h, refl)
   counted-end (unused s z) u t = absurd (u .1 (unused-parent z))
 
-  -- of any list of them, each key once
+  -- for any list of the set's pairs that has each key once
   pub pairs-counted : (ps : List Pair) → Sorted KeysDiffer ps → ((k : List ℕ) (v : ℕ) → Has d k v → List·Memᴰ (k, v) ps) → ((k : List ℕ) (v : ℕ) → List·Memᴰ (k, v) ps → Has d k v)
       → endCount b ≡ length ps
   unfolding endCount

@@ -1,5 +1,5 @@
 -- Demand 2 for the searches and completions, from its parts.
--- The set of an image is what exact finds in it, and of that the searches speak already without the check.
+-- The set of an image is what exact finds in it, and on that the searches agree even without the check.
 use Prim.Native.Nat.{ℕ, _+_, _-_}
 use native.Mathlib.Omega.{arith}
 use mathlib.Core.Path.{_≡_, fun-ext, subst}

@@ -1,5 +1,5 @@
 -- Demand 3, from its parts: bytes that pass are an image of the set that exact search finds in them, and an image has no other set.
--- Both the check and completion go by the one list of its pairs in code order.
+-- The answers of the check and of completion both follow from the one list of its pairs in code order.
 use Prim.Native.Nat.{ℕ}
 use native.Mathlib.Omega.{arith}
 use mathlib.Core.Path.{refl, sym, _∙_}

@@ -15,7 +15,7 @@ use Rattle.lxtr_demands.specs.Laws.Kinds.{KnownImage}
 use Rattle.lxtr_demands.specs.Laws.Slots.{prefix-slot, prefix-step, end-step, ChildIn, child-is}
 
 module _ {b : List ℕ} {d : PairSet} (image : ImageOf b d) where
-  -- the end of a key has a place in the list of the key's slot, and the slot of a longer prefix in that of the shorter one's
+  -- the end of a key has a place in the list of the key's slot, and the slot of a longer prefix has one in the shorter one's list
   pub ended-place : (p : List ℕ) (v : ℕ) → Has d p v → (j : ℕ) × InList b (image .slot p) j × (child b j ≡ image .end p)
   ended-place p v h =
       let n = prefix-slot image p (prefix-key d p v h) in
@@ -28,7 +28,7 @@ module _ {b : List ℕ} {d : PairSet} (image : ImageOf b d) where
       let i = image .placed .slot-in p x f in
       image .lists .whole (image .slot p) (image .slot (p ++ x ∷ [])) (n .from) (n .to) (i .0) (i .1) (image .placed .slot-parent p x f)
 
-  -- what entry j of the list of the slot of p gives
+  -- the code of entry j of the list of p's slot, and the pairs that it gives
   module _ (p : List ℕ) (j : ℕ) where
     pub ended-code : (v : ℕ) → Has d p v → child b j ≡ image .end p → codeTo b (image .slot p) (child b j) ≡ 0
     ended-code v h e = ap (codeTo b (image .slot p)) e ∙ step-code (end-step image p v h)

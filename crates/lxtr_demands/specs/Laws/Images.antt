@@ -1,5 +1,5 @@
 -- An image passes the check, and its set is what exact search finds in it.
--- Both can be decided, so it is enough that no slot can fail to be of one of the kinds, which is what document 01's rules say.
+-- Both are decidable, so it is enough that no slot can fail to be of one of the kinds, and this is what document 01's rules say.
 use Prim.Native.Nat.{ℕ, zero, suc, _<_}
 use native.Mathlib.Nat.{not-suc-le-zero, le-refl}
 use native.Mathlib.Decide.{ℕ-discrete}
@@ -34,7 +34,7 @@ complete known =
       reach = λ s l. slot-reaches known (known .kinds s l);
     }
 
--- what cannot fail at any number below n cannot fail at all of them
+-- if P cannot fail at any single number below n, then it cannot fail to hold of all of them
 not-not-all : (n : ℕ) (P : ℕ → Type 0) → ((i : ℕ) → i < n → ¬ ¬ P i) → ¬ ¬ ((i : ℕ) → i < n → P i)
 not-not-all zero P h k = k (λ i l. absurd (not-suc-le-zero l))
 not-not-all (suc n) P h k = not-not-all n P (λ i l. h i (omega arith)) (λ all. h n (le-refl (suc n)) (λ p. k (λ i l. ⊎-elim (λ e. rw e p) (all i) (below-suc i n l))))
@@ -58,7 +58,7 @@ module _ {b : List ℕ} {d : PairSet} (image : ImageOf b d) where
   pub image-set : d ≡ valueOf b
   image-set = fun-ext (λ k. Dec·not-not (discrete ℕ-discrete (d k) (valueOf b k)) .0 (λ n. not-unknown (λ known. n (set-is known k))))
 
-  -- so what each slot is can be told
+  -- so it is known what each slot is
   pub known-image : KnownImage b d
   known-image = rw image-set (sound (accepted b .0 image-passes))
 

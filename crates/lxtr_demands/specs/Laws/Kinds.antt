@@ -1,5 +1,5 @@
 -- What a slot of an image is: slot 1, a longer prefix's slot, a key's end, or unused.
--- Document 01 says it by exclusion ("all other slots hold two zero words"); here it is said outright.
+-- Document 01 says it by exclusion ("all other slots hold two zero words"); here it is stated directly.
 use Prim.Native.Nat.{ℕ, _<_}
 use mathlib.Core.List.{List, [], _∷_, _++_}
 use Rattle.lxtr_spec.specs.Image.{slotCount}
@@ -12,7 +12,7 @@ pub data Kind (b : List ℕ) (d : PairSet) (slot end : List ℕ → ℕ) : ℕ �
   leaf : (k : List ℕ) (v : ℕ) → Has d k v → Kind b d slot end (end k)
   unused : (s : ℕ) → ZeroWords b s → Kind b d slot end s
 
--- of the slots of an image
+-- the same for the slots of an image
 abbrev pub KindIn : {b : List ℕ} {d : PairSet} → ImageOf b d → ℕ → Type 0
 KindIn {b} {d} image = Kind b d (image .slot) (image .end)
 

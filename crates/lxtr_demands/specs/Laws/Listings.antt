@@ -1,5 +1,5 @@
 -- The pairs that completion lists below a prefix of an image are those of the set whose keys begin with it, in code order.
--- By induction on the labels still allowed: each entry gives the prefix's own pair or what is below a longer prefix, and codes rise.
+-- By induction on the labels still allowed: each entry gives the prefix's own pair or those below a longer prefix, and codes rise.
 use Prim.Native.Nat.{ℕ, zero, suc, _+_, _≤_, _<_}
 use native.Mathlib.Nat.{not-suc-le-zero}
 use native.Mathlib.Omega.{arith}
@@ -55,7 +55,7 @@ module _ {b : List ℕ} {d : PairSet} (known : KnownImage b d) where
       let c = longer-place image p x f in
       at-place b k (image .slot p) p (c .0) (p ++ x ∷ r, v) (c .1) (rw (longer-pairs image p (c .0) x f (c .2) (listFrom b k), e) (all-listed k (p ++ x ∷ []) r v g (omega arith)))
 
-  -- a pair of the set whose key begins with p; and one that an entry gives, whose key goes on with the entry's code
+  -- a pair of the set whose key begins with p; and one that an entry gives, whose key continues with the entry's code
   record Begins (p : List ℕ) (r : Pair) : Type 0 where
     rest : List ℕ
     key : r .0 ≡ p ++ rest
@@ -90,7 +90,7 @@ module _ {b : List ℕ} {d : PairSet} (known : KnownImage b d) where
       let c = from-place b k (image .slot p) p r m in
       given k p f (c .0) r (c .1) (λ q h. only-listed k q h r) (c .2) .begins
 
-  -- it is in code order
+  -- the listing is in code order
   sorted : (k : ℕ) (p : List ℕ) → Prefix d p → Sorted (CodeBefore b) (listFrom b k (image .slot p) p)
   unfolding listFrom Sorted
   sorted zero p f = tt

@@ -1,6 +1,6 @@
 -- Lists that pass rule 11 are the children lists of document 01's image.
--- What takes a count: where offsets don't fall and entries are right, every used slot from 2 up is listed exactly when as many are
--- listed as are used, since each is listed once.
+-- The main step is a count: if offsets don't fall and entries are right, every used slot from 2 up is listed exactly when as many
+-- slots are listed as are used, since none is listed twice.
 use Prim.Native.Nat.{ℕ, _<_}
 use native.Mathlib.Omega.{arith}
 use mathlib.Core.Path.{_≡_, refl, sym, ap, _∙_}
@@ -53,7 +53,7 @@ module _ {b : List ℕ} (right : EntriesRight b) where
   unfolding usedCount
   listed-counted all = sym as-many ∙ count-same (slotCount b) listed (isUsedFrom2 b) (λ s l. same-test (listed s) (isUsedFrom2 b s) (only s l) (λ t. let r = all s l (used-from-2 b s .0 t) in rw (r .2) at (is-listed (r .0) (r .1))))
 
-  -- where it is listed is in the list of its parent
+  -- the place at which a slot is listed is in its parent's list
   pub own-list : (p s j : ℕ) → j < childCount b → child b j ≡ s → parent b s ≡ p → InList b p j
   own-list p s j h e up =
       let o = list-of-place (entries-sorted right) j (omega (arith, right .passed .last)) in

@@ -1,5 +1,5 @@
 -- The lists of an image pass rules 11 and 12.
--- Every used slot from 2 up has one place in the array of children, so there are as many of the ones as of the others.
+-- Every used slot from 2 up has one place in the children array, so there are as many such slots as places.
 use Prim.Native.Nat.{ℕ, zero, suc, _+_, _-_, _<_}
 use native.Mathlib.Omega.{arith}
 use mathlib.Core.Path.{_≡_, refl, sym, ap, _∙_}
@@ -65,7 +65,7 @@ module _ {b : List ℕ} {d : PairSet} (known : KnownImage b d) where
     surjective = place;
   }))
 
-  -- the slot of a prefix that goes on to a key has a child
+  -- if some key begins with p, the slot of p has a child
   has-child : (p r : List ℕ) (v : ℕ) → Has d (p ++ r) v → listWidth b (image .slot p) ≢ 0
   has-child p [] v h = let c = ended-place image p v (rw append-nil at h) in λ e. omega (arith, in-list b (image .slot p) (c .0) .0 (c .1))
   has-child p (x ∷ r) v h = let c = longer-place image p x (record { is = inr (r, v, rw snoc-cons at h) }) in λ e. omega (arith, in-list b (image .slot p) (c .0) .0 (c .1))

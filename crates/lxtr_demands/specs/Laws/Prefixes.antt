@@ -1,5 +1,5 @@
--- The lengths at which a query's prefixes are keys are a run over all lengths, so they come shortest first.
--- The limit on their number takes no prefix away, since no key is longer; the last of them is the longest.
+-- The lengths at which a query's prefixes are keys are found by a run over all lengths, so they come shortest first.
+-- The limit on the query's labels takes no prefix away, since no key is longer; the last of them is the longest.
 use Prim.Native.Nat.{ℕ, _+_, _≤_}
 use native.Mathlib.Omega.{arith}
 use mathlib.Core.Path.{_≡_, refl, sym, ap, _∙_}
@@ -57,7 +57,7 @@ module _ (d : PairSet) (ys : List ℕ) where
       let e = match-is (q .0) (d (take (q .0) ys)) (k, v) (q .3) in
       (omega (arith, q .2, e .0), rw (e .0) (e .1))
 
--- of a set whose keys are not too long
+-- for a set whose keys are within the limit
 module _ (d : PairSet) (limit : (k : List ℕ) (v : ℕ) → Has d k v → length k ≤ maxLabels) (xs : List ℕ) where
   pub prefixes-in : PrefixesIn d xs (matches d (take maxLabels xs))
   prefixes-in = record {

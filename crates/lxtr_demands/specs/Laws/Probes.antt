@@ -1,5 +1,5 @@
--- The width of a slot's children list says whether longer keys exist: its entries are the slots of longer prefixes, and the prefix's own end.
--- The end has code 0, so where it is listed it comes first.
+-- The width of a slot's children list says whether longer keys exist: its entries are the slots of longer prefixes, and the
+-- prefix's own end. The end has code 0, so if it is listed, it comes first.
 use Prim.Native.Nat.{ℕ, _+_, _<_}
 use native.Mathlib.Omega.{arith}
 use mathlib.Core.Path.{_≡_, refl, sym, ap, _∙_}
@@ -21,7 +21,7 @@ use Rattle.lxtr_demands.specs.Laws.Slots.{prefix-slot, ChildIn, longer, 
 use Rattle.lxtr_demands.specs.Laws.Entries.{ended-code, entry-is, ended-place, longer-place}
 use Rattle.lxtr_demands.specs.Laws.Queries.{Leads, to-slot, nowhere}
 
--- a key that goes on makes a longer prefix, and the other way round
+-- a longer key makes a longer prefix, and the other way round
 module _ (d : PairSet) (xs : List ℕ) where
   longer-prefix : (l : Longer d xs) → Prefix d (xs ++ l .next ∷ [])
   longer-prefix l = record { is = inr (l .rest, l .value, rw snoc-cons at (l .is)) }
@@ -33,7 +33,7 @@ module _ {b : List ℕ} {d : PairSet} (known : KnownImage b d) (xs : List ℕ) w
   open KnownImage known using (image)
 
   module _ (f : Prefix d xs) where
-    -- an entry that is not the end
+    -- an entry that is not the end shows that a longer key exists
     entry-longer : (j : ℕ) → InList b (image .slot xs) j → ((v : ℕ) → Has d xs v → child b j ≡ image .end xs → ⊥) → Longer d xs
     entry-longer j i no-end = go (entry-is known xs f j i) refl
       where

@@ -1,5 +1,6 @@
--- The answer of `fault` is right, and no other is. Of a rule that is not kept, the first place of the search is below the bound and none before it fails.
--- What takes a count: where offsets don't fall and entries are right, E differs from the used slots exactly when one of these is unlisted.
+-- The answer of `fault` is right, and no other is: if a rule is broken, the search finds a place below the bound, and no place
+-- before it is at fault. One step is a count: if offsets don't fall and entries are right, E differs from the number of used slots
+-- from 2 up exactly when one of these is unlisted.
 use Prim.Native.Nat.{ℕ, _+_, _-_, _≤_, _<_}
 use native.Mathlib.Omega.{arith}
 use native.Mathlib.Decide.{decLt}
@@ -28,7 +29,7 @@ use Rattle.lxtr_laws.specs.ListEntries.{EntriesRight}
 use Rattle.lxtr_demands.specs.RightPlaces.{First, None, entryFaulty, FirstEntry, OffsetsRise, EntriesHold, AllListed, Right, FaultRight}
 use Rattle.lxtr_demands.specs.Laws.Lists.{used-listed, listed-counted, own-list}
 
--- where some number passes, the search finds the first
+-- if some number passes, the search finds the first
 first-is : (n : ℕ) (f : ℕ → Bool) → anyBelow n f ≡ true → First n f (firstBelow n f)
 first-is n f e =
     let h = some-first f n e in
@@ -52,12 +53,12 @@ module _ (b : List ℕ) where
       let e : p + 1 + (q - (p + 1)) ≡ q = omega arith in
       rw e at (offsets-rise b (offsets-right b .0 (none-falls rise)) (p + 1) (q - (p + 1)) (omega arith))
 
-  -- entry j of a list, which is so many places into it
+  -- entry j of the list of slot p, which is j - offset p places into that list
   faulty-at : (p j : ℕ) (t : Bool) → InList b p j → entryWrongIn b p (j - offset b p) ≡ t → entryFaulty b p j ≡ t
   unfolding entryWrongIn
   faulty-at p j t i e = let k : offset b p + (j - offset b p) ≡ j = omega (arith, i .from) in rw k at e
 
-  -- The first wrong entry: none is wrong in the lists before its own, and none before it in its own. Lists after it have later places.
+  -- The first wrong entry: none is wrong in the lists before its own, and none before it in its own. Later lists have later places.
   entry-right-at : OffsetsRise b → (p : ℕ) → First (slotCount b) (entriesWrong b) p → FirstEntry b p (offset b p + firstBelow (listWidth b p) (entryWrongIn b p))
   unfolding entriesWrong entryWrongIn
   entry-right-at rise p list = record { slot = list .below; within = within; here = inside .here; none-before = λ q k h l m. before q k h l m (decLt q p) (decLt p q) }
@@ -88,7 +89,7 @@ module _ (b : List ℕ) where
     entries-hold : EntriesHold b
     entries-hold = (any-false (slotCount b) (offsetFalls b) .0 rise, λ p j h i. entry-right b p j .1 (entries .entry p j h i))
 
-    -- the list of its parent has a slot s exactly when some list has it
+    -- a used slot is in its parent's list exactly when it is in some list
     in-own-list : (s : ℕ) → s < slotCount b → UsedFrom2 b s → unlisted b s ≡ false → slotsWrong b ≡ false → (j : ℕ) × (j < childCount b) × (child b j ≡ s)
     unfolding unlisted isEntry
     in-own-list s l u e slots =
@@ -119,7 +120,7 @@ module _ (b : List ℕ) where
     all-listed : childCount b ≡ usedCount b → AllListed b
     all-listed e = (entries-hold, e, none-unlisted e)
 
-  -- what a fault that is there and what comes after it say, the choice says
+  -- the choice is right, if the fault here is right when it is there, and what comes after it when it is not
   either : (t : Bool) (here later : Fault) → (t ≡ true → Right b here) → (t ≡ false → Right b later) → Right b (faultIf t here later)
   unfolding faultIf
   either true here later f g = f refl
@@ -153,7 +154,7 @@ module _ (b : List ℕ) where
       either (eqb k 12) (reachFault b) _ (λ t. let e = eqb-true k 12 t in (e, first-is _ _ (refused-12 b e))) (λ not-12.
       omega (arith, refusal-most b, eqb-false k 9 not-9, eqb-false k 10 not-10, eqb-false k 11 not-11, eqb-false k 12 not-12)))))
 
-  -- Conversely: what an answer says decides the tests by which the definition goes.
+  -- Conversely: what a right answer says decides the tests of the definition.
   none-wrong : EntriesHold b → anyBelow (slotCount b) (entriesWrong b) ≡ false
   unfolding entriesWrong entryWrongIn
   none-wrong h = any-false (slotCount b) (entriesWrong b) .1 (λ p l. any-false (listWidth b p) (entryWrongIn b p) .1 (λ i m. h .1 p (offset b p + i) l (in-list b p (offset b p + i) .1 (omega arith, omega arith))))

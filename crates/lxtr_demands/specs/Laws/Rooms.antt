@@ -1,5 +1,5 @@
--- The pairs that completion writes are the front part for which there is room, and no other part is that.
--- In room enough they are all.
+-- The pairs that completion writes are the front part for which there is room, and there is only one such part.
+-- If there is room enough, they are all pairs.
 use Prim.Native.Nat.{ℕ, _+_, _-_, _≤_, _<_}
 use native.Mathlib.Omega.{arith}
 use mathlib.Core.Path.{_≡_, refl, sym, ap, _∙_}
@@ -17,7 +17,7 @@ use Rattle.lxtr_laws.specs.Lengths.{record-length, room-from}
 nil-not-cons : {p : Pair} {ps : List Pair} → _≡_ {A = List Pair} [] (p ∷ ps) → ⊥
 nil-not-cons e = omega (arith, ap length e)
 
--- in room enough the front part is the whole
+-- if there is room enough, the front part is the whole list
 pub whole-front : (r : ℕ) (ps : List Pair) → roomFor ps ≤ r → FittingFront r ps ps
 whole-front r ps h = record { rest = []; parts = sym (append-nil ps); fits = h; full = λ p later e. absurd (nil-not-cons e) }
 

@@ -1,5 +1,5 @@
--- Where 1 to 8 and 13 refuse nothing the searches speak of the pairs that exact finds.
--- Within the limit the walk is cut nowhere, so the values that prefixes are defined by are exact's.
+-- If 1 to 8 and 13 refuse nothing, the searches agree on the pairs that exact finds.
+-- Within the limit no walk is cut short, so the values by which prefixes are defined are exact's.
 use Prim.Native.Nat.{ℕ, _+_, _*_, _%_, _≤_}
 use native.Mathlib.Omega.{arith}
 use mathlib.Core.Path.{_≡_, refl, ap, fun-ext}
@@ -43,7 +43,7 @@ module _ (b : List ℕ) where
   unfolding exactValue
   exact-limit k v h = reached-limit k v (walkWithin b k) refl h
 
-  -- and within it what the walk gives
+  -- and within the limit it finds what the walk gives
   exact-within : (k : List ℕ) → length k ≤ maxLabels → exactValue b k ≡ valueOf b k
   unfolding exactValue valueOf
   exact-within k h = rw (within b k h)

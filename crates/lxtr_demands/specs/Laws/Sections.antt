@@ -12,7 +12,7 @@ use Rattle.lxtr_spec.specs.Builds.{headerBytes, mapBytes, imageBytes}
 use Rattle.lxtr_laws.specs.ByteOrders.{little, big, words-size}
 use Rattle.lxtr_laws.specs.ReadBack.{le-first, be-first, le-past, be-past, le-words, be-words}
 
--- N slots' nodes, their offsets, the children and the labels fit together, and all are numbers of 32 bits
+-- the nodes of N slots, their offsets, the children and the labels fit together, and all are numbers of 32 bits
 pub record Sections (N : ℕ) (nodes offsets children labels : List ℕ) : Type 0 where
   pub slots : N < 2 ^ 32
   pub nodes-size : length nodes ≡ 2 * N
@@ -105,7 +105,7 @@ module _ (N : ℕ) (nodes offsets children labels : List ℕ) (s : Sections N no
   unfolding mapLength headerBytes magic leWords leBytes le32
   map-read = le-first M [] (s .labels-few)
 
-  -- a number of the nodes, of what follows them, of the children and what follows these
+  -- the numbers of the nodes, of the offsets and of the children
   past-header : (i : ℕ) → le32 made (24 + i) ≡ le32 (leWords nodes ++ afterNodes) i
   past-header i = ap (λ (n : ℕ). le32 made (n + i)) (sym header-length) ∙ le-past header (leWords nodes ++ afterNodes) i
 

@@ -1,5 +1,5 @@
--- The slots of an image of a set: where they lie, the steps between them, and the walks that come to them.
--- A slot below a prefix's slot is that of a longer prefix or the prefix's own end, so every walk comes to the slot of a prefix.
+-- The slots of an image of a set: where they are, the steps between them, and the walks that reach them.
+-- A slot below a prefix's slot is that of a longer prefix or the prefix's own end, so every walk reaches the slot of a prefix.
 use Prim.Native.Nat.{ℕ, _≤_, _<_}
 use native.Mathlib.Omega.{arith}
 use mathlib.Core.Path.{_≡_, refl, sym, ap, _∙_}
@@ -15,7 +15,7 @@ use Rattle.lxtr_laws.specs.KeyPrefixes.{Last, empty, snoc, last, prefix-root, p
 use Rattle.lxtr_laws.specs.StepFacts.{Stepped, one-code, walk-empty, none-not-some, walk-snoc, exact-is}
 use Rattle.lxtr_demands.specs.Laws.Kinds.{KindIn, root, inner, leaf, unused, KnownImage}
 
--- where the slot of a prefix lies
+-- the slot of a prefix is a used slot of the image
 pub record PrefixSlot (b : List ℕ) (s : ℕ) : Type 0 where
   pub from : 1 ≤ s
   pub to : s < slotCount b
@@ -119,7 +119,7 @@ module _ {b : List ℕ} {d : PairSet} (known : KnownImage b d) where
           rw same (ended v (rw same at h))
       go (unused t z) e = absurd (omega (arith, unused-parent z, prefix-slot image p f .from))
 
-  -- a step by a listed label comes to the slot of the longer prefix
+  -- a step by a listed label reaches the slot of the longer prefix
   step-prefix : (p : List ℕ) (x c t : ℕ) → Prefix d p → Listed b x c → Stepped b (image .slot p) c t → Prefix d (p ++ x ∷ []) × (image .slot (p ++ x ∷ []) ≡ t)
   step-prefix p x c t f l s = go (child-is p f t (s .below) (s .up)) s
     where
@@ -140,7 +140,7 @@ module _ {b : List ℕ} {d : PairSet} (known : KnownImage b d) where
   pub walked : (p : List ℕ) (t : ℕ) → walk b 1 p ≡ some t → Prefix d p × (image .slot p ≡ t)
   walked p = walked-last p (last p)
 
-  -- exact search finds the set's value of every key
+  -- exact search finds the set's value for every key
   pub set-is : (k : List ℕ) → d k ≡ valueOf b k
   set-is k = go (d k) refl (valueOf b k) refl
     where

@@ -1,5 +1,5 @@
--- The slots of an image pass rule 10: each by what it is.
--- A used slot from 2 up lies one step below a prefix's slot; HAS_LEAF there says whether the prefix is a key.
+-- The slots of an image pass rule 10: case by case, by what each slot is.
+-- A used slot from 2 up is one step below a prefix's slot, whose HAS_LEAF says whether the prefix is a key.
 use Prim.Native.Nat.{ℕ, _≤_}
 use native.Mathlib.Omega.{arith}
 use mathlib.Core.Path.{_≡_, sym, ap, _∙_}
@@ -22,7 +22,7 @@ use Rattle.lxtr_demands.specs.Laws.Slots.{prefix-slot, prefix-step, end-
 module _ {b : List ℕ} {d : PairSet} (known : KnownImage b d) where
   open KnownImage known using (image)
 
-  -- slot 0 belongs to nothing
+  -- slot 0 is the slot of no prefix and of no end
   zero-words : ZeroWords b 0
   zero-words =
       let z = image .placed .others 0 (omega (arith, image .framed .slots)) (λ p f e. omega (arith, prefix-slot image p f .from)) (λ k v h e. omega (arith, image .placed .end-in k v h)) in
@@ -45,7 +45,7 @@ module _ {b : List ℕ} {d : PairSet} (known : KnownImage b d) where
       back (longer x g) s = let l = prefix-step image p x g in absurd (omega (arith, one-code (l .stepped) s, l .listed .from))
       back (ended v h) s = image .placed .slot-flag p f .1 (v, h)
 
-  -- no end is below an unused slot, whose base is 0: slot 0 has no parent
+  -- an unused slot has no end: its base is 0, and slot 0 has no parent
   unused-no-end : (s : ℕ) → 1 ≤ s → ZeroWords b s → endExists b s ≡ false
   unused-no-end s h z = is-false (endExists b s) (λ t. omega (arith, end-exists b s .0 t .up, ap (parent b) (unused-base z), unused-parent zero-words))
 

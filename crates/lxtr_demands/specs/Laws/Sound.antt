@@ -1,5 +1,5 @@
 -- Accepted bytes are an image: of the set of the pairs that exact search finds in them.
--- Every slot with a parent lies below a slot that a walk comes to, so it is the slot of a longer prefix or an end.
+-- Every slot with a parent is below a slot that a walk reaches, so it is the slot of a longer prefix or an end.
 use Prim.Native.Nat.{ℕ, _≤_, zero, suc, _<_}
 use native.Mathlib.Decide.{ℕ-discrete}
 use native.Mathlib.Omega.{arith}
@@ -59,7 +59,7 @@ module _ {b : List ℕ} (ok : Accepted b) where
       go (yes e) = no-parent s l e
       go (no h) = let u = has-parent ok s h in child u (parent-walk ok s l u) (isLeaf b s) refl
 
-  -- of an empty set, slot 1 has base 0
+  -- if the set is empty, slot 1 has base 0
   empty-root : ((k : List ℕ) → valueOf b k ≡ none) → base b 1 ≡ 0
   empty-root h =
       let childless : ¬ (1 ≤ listWidth b 1) = λ l. let k = on-to-key ok [] 1 (walk-empty b 1 .1 refl) (λ e. omega arith) in none-not-some (sym (h (k .0)) ∙ k .2) in

@@ -1,5 +1,5 @@
--- The slots to which walks lead: a prefix's slot is the one to which its labels lead, a key's end the one to which code 0 leads from there.
--- Over accepted bytes no two prefixes lead to one slot: the slot's parent and own code tell the last label, and so on back to slot 1.
+-- The slots that walks reach: a prefix's slot is the one that its labels reach, a key's end the one that code 0 reaches from there.
+-- Over accepted bytes no two prefixes reach one slot: its parent and own code determine the last label, and so on back to slot 1.
 use Prim.Native.Nat.{ℕ}
 use native.Mathlib.Omega.{arith}
 use mathlib.Core.Path.{_≡_, refl, sym, ap, _∙_}
@@ -30,7 +30,7 @@ module _ (b : List ℕ) where
   pub root-slot : slotAt b [] ≡ 1
   root-slot = walk-slot [] 1 (walk-empty b 1 .1 refl)
 
-  -- a prefix is walked to
+  -- the labels of a prefix lead to its slot
   pub prefix-walk : (p : List ℕ) → Prefix (valueOf b) p → walk b 1 p ≡ some (slotAt b p)
   prefix-walk p f = go (f .is)
     where
@@ -54,7 +54,7 @@ module _ (b : List ℕ) where
     pub key-walk : walk b 1 k ≡ some (slotAt b k)
     key-walk = prefix-walk k (prefix-key (valueOf b) k v h)
 
-    -- a key's value stands at its end
+    -- a key's value is at its end
     pub key-valued : Valued b (slotAt b k) v
     key-valued = let x = exact-is b k v .0 h in rw (walk-slot k (x .0) (x .1)) (x .2)
 
@@ -75,7 +75,7 @@ module _ {b : List ℕ} (ok : Accepted b) where
   pub key-reached : (k : List ℕ) (v : ℕ) → Has (valueOf b) k v → WalkSlot b (slotAt b k)
   key-reached k v h = prefix-reached k (prefix-key (valueOf b) k v h)
 
-  -- no step comes to slot 1
+  -- no step leads to slot 1
   root-no-step : (r : List ℕ) (y n : ℕ) → 1 ≡ n → walk b 1 (r ++ y ∷ []) ≡ some n → ⊥
   root-no-step r y n z e = let w = walk-snoc b r y n .0 e in omega (arith, w .stepped .up, root-parent ok, ap (parent b) z, reached ok r (w .slot) (w .walked) .from)
 

@@ -1,5 +1,5 @@
--- Walks over accepted bytes: the slots that they come to, and the children of these.
--- A child is the end of the walk's key, or the slot one label further; the steps to the parent bound how far this goes on.
+-- Walks over accepted bytes: the slots that they reach, and the children of these.
+-- A child is the end of the walk's key, or the slot one label further; the steps to the parent bound how far this continues.
 use Prim.Native.Nat.{ℕ, zero, suc, _+_, _≤_, _<_}
 use native.Mathlib.Nat.{le-refl}
 use native.Mathlib.Omega.{arith}
@@ -25,7 +25,7 @@ use Rattle.lxtr_laws.specs.StepFacts.{Stepped, own-code, walk-ancestor, walk-em
 use Rattle.lxtr_laws.specs.ListPlaces.{in-list}
 use Rattle.lxtr_demands.specs.Laws.Kinds.{}
 
--- a slot that a walk comes to
+-- a slot that a walk reaches
 pub record WalkSlot (b : List ℕ) (n : ℕ) : Type 0 where
   pub from : 1 ≤ n
   pub to : n < slotCount b
@@ -44,7 +44,7 @@ module _ {b : List ℕ} (ok : Accepted b) where
   has-parent (suc zero) h = absurd (h root-parent)
   has-parent (suc (suc s)) h = (omega arith, h)
 
-  -- a step from a slot from 1 up comes to a used slot, whose code is the step's
+  -- a step from a slot from 1 up reaches a used slot, which is a leaf exactly when the step's code is 0
   module _ {n c t : ℕ} (from : 1 ≤ n) (s : Stepped b n c t) where
     pub step-used : UsedFrom2 b t
     step-used = has-parent t (λ e. omega (arith, s .up))
@@ -78,7 +78,7 @@ module _ {b : List ℕ} (ok : Accepted b) where
   unfolding ancestor
   above-root k s e f = omega (arith, ancestor-zero k, sym (ap (ancestor b k) (ap (parent b) e ∙ root-parent)) ∙ f)
 
-  -- so one number of steps leads to slot 1
+  -- so only one number of steps leads to slot 1
   steps-once : (i j s : ℕ) → ancestor b i s ≡ 1 → ancestor b j s ≡ 1 → i ≡ j
   unfolding ancestor
   steps-once zero zero s e f = refl
@@ -98,7 +98,7 @@ module _ {b : List ℕ} (ok : Accepted b) where
     child-right : UsedRight b t
     child-right = ok .slots t l .used child-used
 
-    -- no walk with a child is longer than a key
+    -- a walk to a slot that has a child is no longer than a key may be
     pub child-depth : length p ≤ maxLabels
     unfolding ancestor
     child-depth =
@@ -125,7 +125,7 @@ module _ {b : List ℕ} (ok : Accepted b) where
   first-entry : (p : List ℕ) (n : ℕ) → walk b 1 p ≡ some n → listWidth b n ≢ 0 → EntryRight b n (offset b n)
   first-entry p n w h = ok .lists .entry n (offset b n) (reached p n w .to) (in-list b n (offset b n) .1 (omega arith))
 
-  -- a slot that a walk comes to and that has a child is on the way to a key; f is how many labels are still allowed
+  -- a slot that a walk reaches and that has a child is on the way to a key; f is how many labels are still allowed
   key-below : (f : ℕ) (p : List ℕ) (n : ℕ) → walk b 1 p ≡ some n → listWidth b n ≢ 0 → maxLabels < length p + f → GoesOn (valueOf b) p
   key-below zero p n w h k = let e = first-entry p n w h in absurd (omega (arith, child-depth p n (child b (offset b n)) w (e .to) (e .up)))
   key-below (suc f) p n w h k = let e = first-entry p n w h in by-child (child b (offset b n)) (e .to) (e .up) (key-below f) (isLeaf b (child b (offset b n))) refl
@@ -142,7 +142,7 @@ module _ {b : List ℕ} (ok : Accepted b) where
   pub on-to-key : (p : List ℕ) (n : ℕ) → walk b 1 p ≡ some n → listWidth b n ≢ 0 → GoesOn (valueOf b) p
   on-to-key p n w h = key-below lengthCount p n w h (omega arith)
 
-  -- a walk comes to every used slot that is no leaf and from which steps to the parent lead to slot 1
+  -- a walk reaches every used slot that is not a leaf and from which steps to the parent lead to slot 1
   walk-down : (k s : ℕ) → ancestor b k s ≡ 1 → s < slotCount b → Used b s → isLeaf b s ≡ false → (p : List ℕ) × (walk b 1 p ≡ some s)
   unfolding ancestor
   walk-down zero s e l u i = ([], walk-empty b s .1 (sym e))

@@ -1,4 +1,4 @@
--- Bytes that hold the words of a work, and its children lists behind their offsets: the lists are those of an image.
+-- Bytes that hold the words of a work, and its children lists with their offsets: the lists are those of an image.
 use Prim.Native.Nat.{ℕ, _+_, _-_, _≤_, _<_}
 use native.Mathlib.Nat.{zero-add}
 use native.Mathlib.Omega.{arith}

@@ -25,7 +25,7 @@ module _ {b w : List ℕ} {N : ℕ} (words : WordsOf b w N) where
   unfolding parent
   parent-of s h = ap low31 (words .check-of s h)
 
-  -- where IS_LEAF is clear
+  -- if IS_LEAF is clear
   pub base-of-inner : (s : ℕ) → s < N → baseAt w s < 2 ^ 31 → base b s ≡ baseAt w s
   unfolding base
   base-of-inner s h l = ap low31 (words .base-of s h) ∙ omega arith
