@@ -45,7 +45,7 @@ childBy w N p c = cond (isChild w N p (slotUnder (baseAt w p) c)) (slotUnder (ba
 unfoldable pub childrenOf : List ℕ → ℕ → ℕ → ℕ → List ℕ
 childrenOf w N L p = elim (eqb p 0 || topBit (baseAt w p)) [ true ↦ [] | false ↦ concatFrom (L + 1) 0 (childBy w N p) ]
 
--- the children of all slots; then the offsets of the n slots from p on, whose children start at place e, and the offset after the last
+-- the children of all slots; then the offsets of the n slots starting at p, whose children start at place e, and the offset after the last
 unfoldable pub childrenIn : List ℕ → ℕ → ℕ → List ℕ
 childrenIn w N L = concatFrom N 0 (childrenOf w N L)
 

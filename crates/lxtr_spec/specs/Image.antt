@@ -113,7 +113,7 @@ labelAt b i = be32 b (mapAt b + 5 + 4 * i)
 unfoldable pub labelOfCode : List ℕ → ℕ → ℕ
 labelOfCode b c = labelAt b (c - 1)
 
--- The code of a label is its first place in the map: first among the n places from i on, then among all places.
+-- The code of a label is its first place in the map: first among the n places starting at i, then among all places.
 unfoldable pub codeFrom : List ℕ → ℕ → ℕ → ℕ → Option ℕ
 codeFrom b x zero i = none
 codeFrom b x (suc n) i = elim (eqb (labelAt b i) x) [ true ↦ some (i + 1) | false ↦ codeFrom b x n (i + 1) ]

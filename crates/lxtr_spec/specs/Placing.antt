@@ -31,7 +31,7 @@ fits S w [] b = true
 fits S w (c ∷ cs) b = isFree S w (slotUnder b c) && fits S w cs b
 
 -- A slot's base is the smallest number from 0 to 65,535 for which every child's slot is free and lies in 2 to S-1:
--- first among the n numbers from b on, then among all.
+-- first among the n numbers starting at b, then among all.
 unfoldable pub firstFitFrom : ℕ → List ℕ → List ℕ → ℕ → ℕ → Option ℕ
 firstFitFrom S w cs zero b = none
 firstFitFrom S w cs (suc n) b = elim (fits S w cs b) [ true ↦ some b | false ↦ firstFitFrom S w cs n (b + 1) ]

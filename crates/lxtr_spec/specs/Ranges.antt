@@ -14,7 +14,7 @@ unfoldable pub countBelow : ℕ → (ℕ → Bool) → ℕ
 countBelow zero f = 0
 countBelow (suc n) f = countBelow n f + cond (f n) 1 0
 
--- the first number below n that passes, or n if none does: first among the n numbers from i on, then among all numbers below n
+-- the first number below n that passes, or n if none does: first among the n numbers starting at i, then among all numbers below n
 unfoldable pub firstFrom : ℕ → ℕ → (ℕ → Bool) → ℕ
 firstFrom zero i f = i
 firstFrom (suc n) i f = elim (f i) [ true ↦ i | false ↦ firstFrom n (i + 1) f ]
