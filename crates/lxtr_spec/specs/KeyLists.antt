@@ -33,7 +33,7 @@ keyLabel b at j = be32 b (at + 1 + 4 * j)
 unfoldable pub nextKey : List ℕ → ℕ → ℕ
 nextKey b at = at + 1 + 4 * keyLength b at
 
--- its n labels from label j on, then all of its labels
+-- its n labels starting at label j, then all of its labels
 unfoldable pub keyLabels : List ℕ → ℕ → ℕ → ℕ → List ℕ
 keyLabels b at zero j = []
 keyLabels b at (suc n) j = keyLabel b at j ∷ keyLabels b at n (j + 1)
@@ -41,7 +41,7 @@ keyLabels b at (suc n) j = keyLabel b at j ∷ keyLabels b at n (j + 1)
 unfoldable pub keyAt : List ℕ → ℕ → List ℕ
 keyAt b at = keyLabels b at (keyLength b at) 0
 
--- Key i gets value i: the n keys from key i on, which starts at the place `at`; then all keys.
+-- Key i gets value i: the n keys starting at key i, which is at the place `at`; then all keys.
 unfoldable pub keysFrom : List ℕ → ℕ → ℕ → ℕ → List Pair
 keysFrom b zero i at = []
 keysFrom b (suc n) i at = (keyAt b at, i) ∷ keysFrom b n (i + 1) (nextKey b at)
@@ -67,7 +67,7 @@ keyRefusal b i before at =
     (refuseIf (notAbove b i before at) 19
     0))))
 
--- the first of these refusals for the n keys from key i on; then 15 bytes left over
+-- the first of these refusals for the n keys starting at key i; then 15 bytes left over
 unfoldable pub keysRefusal : List ℕ → ℕ → ℕ → ℕ → ℕ → ℕ
 keysRefusal b zero i before at = refuseIf (ltb at (length b)) 15 0
 keysRefusal b (suc n) i before at = let later = keysRefusal b n (i + 1) at (nextKey b at) in firstRefusal (keyRefusal b i before at) later

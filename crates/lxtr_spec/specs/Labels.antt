@@ -39,7 +39,7 @@ comesBefore [] (y ∷ l) = true
 comesBefore (x ∷ k) [] = false
 comesBefore (x ∷ k) (y ∷ l) = ltb x y || (eqb x y && comesBefore k l)
 
--- A query is bytes, four to a label, big-endian: first its n labels from place i on, then all of them.
+-- A query is bytes, four to a label, big-endian: first its n labels starting at place i, then all of them.
 unfoldable pub labelsFrom : List ℕ → ℕ → ℕ → List ℕ
 labelsFrom q zero i = []
 labelsFrom q (suc n) i = be32 q (4 * i) ∷ labelsFrom q n (i + 1)
