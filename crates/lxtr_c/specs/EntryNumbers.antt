@@ -42,16 +42,17 @@ module _ (b : List ℕ) where
     unfolding probeNumber
     probe-number a n e h = rw (← e) h
 
-    -- the part that longest hands back has four bytes per label
+    -- the part that longest hands back has four bytes per label, and no more labels than a key may have
     module _ (k : ℕ) (part : List ℕ) (e : _≡_ {A = LongestAnswer} (record { refusal = k; part = part }) (longestOf b q)) where
-      longest-labels : length part / 4 ≡ longestLength b q
+      longest-size : length part ≡ 4 * longestLength b q
       unfolding longestOf
-      longest-labels =
-          let whole : length part ≡ 4 * longestLength b q = ap (λ (a : LongestAnswer). length (a .part)) e ∙ length-take-le (4 * longestLength b q) q (longest-bytes b q) in
-          omega arith
+      longest-size = ap (λ (a : LongestAnswer). length (a .part)) e ∙ length-take-le (4 * longestLength b q) q (longest-bytes b q)
 
-      pub longest-fits : length part / 4 < 2 ^ 32
-      longest-fits = omega (arith, longest-labels, longest-limit b q, length-fits-byte)
+      longest-labels : length part / 4 ≡ longestLength b q
+      longest-labels = omega (arith, longest-size)
+
+      pub longest-fits : length part < 2 ^ 32
+      longest-fits = omega (arith, longest-size, longest-limit b q, length-fits-byte)
 
       pub longest-number : (n : ℕ) → n ≡ hostNumber k false false (length part / 4) → n ≡ longestNumber b q
       unfolding longestNumber longestOf

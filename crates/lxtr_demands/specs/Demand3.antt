@@ -2,7 +2,7 @@
 -- Only the statement, of any program; that the definitions meet it is `demand3` in Laws/Demand3.antt.
 use Prim.Native.Nat.{ℕ, _≤_}
 use mathlib.Core.Path.{_≡_}
-use mathlib.Core.Logic.{_↔_}
+use mathlib.Core.Logic.{_≢_, _↔_}
 use mathlib.Core.List.{List, [], _++_}
 use mathlib.Core.Bool.{false}
 use lib.ListN.{length, drop}
@@ -24,6 +24,8 @@ pub record Demand3 (o : Operations) (b : List ℕ) : Type 0 where
   pub one-listing : (d : PairSet) (ps rs : List Pair) → Lists b d [] ps → Lists b d [] rs → ps ≡ rs
   -- The check answers their number.
   pub answer : (d : PairSet) (ps : List Pair) → ImageOf b d → Lists b d [] ps → o .check b ≡ record { refusal = 0; pairs = length ps }
+  -- If it refuses, it answers 0 pairs.
+  pub refused : o .check b .refusal ≢ 0 → o .check b .pairs ≡ 0
   -- Completion of the empty prefix, in room enough for the set, refuses nothing, answers the same number, does not stop,
   -- and writes this list at the room's front: version byte 1, count, then the records. Bytes past the last record stay.
   pub completion : (d : PairSet) (ps : List Pair) (room : List ℕ) → ImageOf b d → Lists b d [] ps → roomFor ps ≤ length room

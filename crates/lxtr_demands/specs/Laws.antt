@@ -33,4 +33,5 @@ pub mod Sections
 pub mod WorkSlots
 pub mod WorkLists
 pub mod BuiltImages
+pub mod Placings
 pub mod Builder

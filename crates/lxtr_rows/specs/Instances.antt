@@ -33,7 +33,7 @@ use Rattle.lxtr_demands.specs.RightPlaces.{Right}
 use Rattle.lxtr_demands.specs.Rows.{computing}
 use Rattle.lxtr_demands.specs.Laws.Demand2.{demand2}
 use Rattle.lxtr_demands.specs.Laws.Demand3.{demand3}
-use Rattle.lxtr_demands.specs.Laws.Builder.{codes-by-frequency}
+use Rattle.lxtr_demands.specs.Laws.Builder.{codes-by-frequency, demand2-builder}
 use Rattle.lxtr_demands.specs.Laws.RightPlaces.{fault-right}
 
 -- ---- images: P1, P2, P3 and P11 are images of a set, and P7 to P10 of none
@@ -100,10 +100,13 @@ module _ (o : Operations) (meets : (b : List ℕ) → Demand3 o b) where
   pub accepts-all-fails : ((b : List ℕ) → o .check b .refusal ≡ 0) → ⊥
   accepts-all-fails accepts = accepted-other-fails p10 p10-is-none (accepts p10)
 
-  -- A made-up pair count fails: any number that is not that of the set's pairs. So does the same number for every image, and the
-  -- number of used slots from 2 up.
+  -- A made-up pair count fails: any number that is not that of the set's pairs, or is not 0 beside a refusal. So does the same
+  -- number for every image, and the number of used slots from 2 up.
   pub made-up-count-fails : (b : List ℕ) (d : PairSet) (ps : List Pair) → ImageOf b d → Lists b d [] ps → o .check b .pairs ≢ length ps → ⊥
   made-up-count-fails b d ps image are other = other (ap (λ (v : Verdict). v .pairs) (meets b .answer d ps image are))
+
+  pub refused-count-fails : (b : List ℕ) → o .check b .refusal ≢ 0 → o .check b .pairs ≢ 0 → ⊥
+  refused-count-fails b refuses other = other (meets b .refused refuses)
 
   pairs-of : (b : List ℕ) → IsImage b → o .check b .pairs ≡ checkOf b .pairs
   pairs-of b image = ap (λ (v : Verdict). v .pairs) (only-check b image)
@@ -241,9 +244,9 @@ module _ (o : Operations) (meets : Demand2 o) where
       longer q whole = ap (λ (a : ProbeAnswer). a .longer) (probes q whole)
 
   -- A completion that writes nothing fails, on P11.
-  pub idle-completion-fails : ((room : List ℕ) → o .complete p11 [] room .room ≡ room) → ⊥
+  pub idle-completion-fails : ((room : List ℕ) → 5 ≤ length room → o .complete p11 [] room .room ≡ room) → ⊥
   idle-completion-fails idle =
-      omega (arith, version-written, ap (λ (r : List ℕ). getD r 0 0) (idle (blank 40)), ap (λ (a : CompletionAnswer). getD (a .room) 0 0) (only-complete p11 [] (blank 40) p11-is-image refl (omega arith)))
+      omega (arith, version-written, ap (λ (r : List ℕ). getD r 0 0) (idle (blank 40) (omega arith)), ap (λ (a : CompletionAnswer). getD (a .room) 0 0) (only-complete p11 [] (blank 40) p11-is-image refl (omega arith)))
 
   -- A made-up completion count fails: any number that is not that of the records that fit. So does the same number whatever the
   -- room. (The count that is written into the room is part of what only-complete says.)
@@ -282,18 +285,23 @@ module _ (o : Operations) (meets : Demand2Builder o) where
   abbrev writes : List ℕ → List ℕ → List ℕ → List ℕ
   writes keys work out = take (o .build keys work out .answer .length) (o .build keys work out .output)
 
+  -- No other image than that of the definitions meets the demand.
+  pub only-build : (keys work out : List ℕ) → o .build keys work out .answer .refusal ≡ 0
+      → writes keys work out ≡ take (buildOf keys work out .answer .length) (buildOf keys work out .output)
+  only-build keys work out e = meets .one-image keys (length work) _ _ (meets .first-fit keys work out e) (demand2-builder .first-fit keys work out (sym (meets .refuses keys work out) ∙ e))
+
   -- If nothing is refused, something is written: an output that does not begin with `L` is not an image as it is.
   pub unwritten-fails : (keys work out : List ℕ) → getD out 0 0 ≢ 0x4C → o .build keys work out .answer .refusal ≡ 0 → o .build keys work out .output ≡ out → ⊥
   unfolding magic
   unwritten-fails keys work out other e idle =
-      let begins = meets keys work out e .image-of .framed .magic-bytes 0 (omega arith) in
+      let begins = meets .reads-back keys work out e .image-of .framed .magic-bytes 0 (omega arith) in
       other-front (o .build keys work out .answer .length) out other (subst (λ (l : List ℕ). getD (take (o .build keys work out .answer .length) l) 0 0 ≡ 0x4C) idle begins)
 
   -- If a key has a label, some slot has a parent other than slot 1: the key's end, for one.
   pub one-level-fails : (keys work out k : List ℕ) (x v : ℕ) → List·Memᴰ (k ++ x ∷ [], v) (pairsOf keys) → o .build keys work out .answer .refusal ≡ 0
       → ((s : ℕ) → 2 ≤ s → s < slotCount (writes keys work out) → parent (writes keys work out) s ≤ 1) → ⊥
   one-level-fails keys work out k x v m e low =
-      let back = meets keys work out e in
+      let back = meets .reads-back keys work out e in
       let placed = back .image-of .placed in
       let key = k ++ x ∷ [] in
       let has : Has (back .pair-set) key v = back .pair-set-is .each key v m in
@@ -301,20 +309,21 @@ module _ (o : Operations) (meets : Demand2Builder o) where
       let end = placed .end-in key v has in
       omega (arith, low (back .image-of .end key) (end .0) (end .1), placed .end-parent key v has, placed .slot-in k x is-prefix .0)
 
-  -- So, among the builders that refuse what document 01 refuses and nothing else, one that writes nothing fails, and so does one
-  -- that places slot 1's children and no more. (One that refuses more has nothing to read back; the equation of `build` rules it
-  -- out.)
-  module _ (refuses : (keys work out : List ℕ) → o .build keys work out .answer .refusal ≡ buildOf keys work out .answer .refusal) where
-    builds : o .build keys3 (blank 14) (blank 141) .answer .refusal ≡ 0
-    builds = refuses keys3 (blank 14) (blank 141) ∙ builds3 .0
+  -- So a builder that refuses all fails, on P3's keys, and so does one that writes nothing, and one that places slot 1's children
+  -- and no more.
+  builds : o .build keys3 (blank 14) (blank 141) .answer .refusal ≡ 0
+  builds = meets .refuses keys3 (blank 14) (blank 141) ∙ builds3 .0
 
-    pub idle-builder-fails : ((keys work out : List ℕ) → o .build keys work out .output ≡ out) → ⊥
-    idle-builder-fails idle = unwritten-fails keys3 (blank 14) (blank 141) (λ e. omega (arith, e)) builds (idle keys3 (blank 14) (blank 141))
+  pub refusing-builder-fails : ((keys work out : List ℕ) → o .build keys work out .answer .refusal ≢ 0) → ⊥
+  refusing-builder-fails refuses = refuses keys3 (blank 14) (blank 141) builds
 
-    pub one-level-builder-fails : ((keys work out : List ℕ) (s : ℕ) → 2 ≤ s → s < slotCount (writes keys work out) → parent (writes keys work out) s ≤ 1) → ⊥
-    one-level-builder-fails low =
-        let first : List·Memᴰ {A = Pair} (0x6E ∷ [], 0) (pairsOf keys3) = subst (List·Memᴰ {A = Pair} (0x6E ∷ [], 0)) (sym (builds3 .1)) (List·Memᴰ·head refl) in
-        one-level-fails keys3 (blank 14) (blank 141) [] 0x6E 0 first builds (low keys3 (blank 14) (blank 141))
+  pub idle-builder-fails : ((keys work out : List ℕ) → o .build keys work out .answer .refusal ≡ 0 → o .build keys work out .output ≡ out) → ⊥
+  idle-builder-fails idle = unwritten-fails keys3 (blank 14) (blank 141) (λ e. omega (arith, e)) builds (idle keys3 (blank 14) (blank 141) builds)
+
+  pub one-level-builder-fails : ((keys work out : List ℕ) → o .build keys work out .answer .refusal ≡ 0 → (s : ℕ) → 2 ≤ s → s < slotCount (writes keys work out) → parent (writes keys work out) s ≤ 1) → ⊥
+  one-level-builder-fails low =
+      let first : List·Memᴰ {A = Pair} (0x6E ∷ [], 0) (pairsOf keys3) = subst (List·Memᴰ {A = Pair} (0x6E ∷ [], 0)) (sym (builds3 .1)) (List·Memᴰ·head refl) in
+      one-level-fails keys3 (blank 14) (blank 141) [] 0x6E 0 first builds (low keys3 (blank 14) (blank 141) builds)
 
 -- ---- code maps
 

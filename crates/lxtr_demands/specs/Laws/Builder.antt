@@ -1,25 +1,24 @@
--- Demand 2 for the builder, from its parts: what is built is an image of the set of the key list's pairs, and over an image the
--- searches, the check and completion answer what its set says.
-use Prim.Native.Nat.{ℕ, _*_, zero, suc, _%_, _^_, _≤_, _<_}
+-- Demand 2 for the builder, from its parts: what is built is placed by first fit, it is an image of the set of the key list's
+-- pairs, and over an image the searches, the check and completion answer what its set says.
+use Prim.Native.Nat.{ℕ, _*_, zero, suc, _%_, _^_, _<_}
 use native.Mathlib.Omega.{arith}
 use mathlib.Core.Path.{_≡_, refl, sym, ap, _∙_, subst}
 use mathlib.Core.Logic.{_≢_, ⊎-elim}
-use mathlib.Core.List.{List, [], _∷_, append-nil, List·Memᴰ, List·Memᴰ·head, List·Memᴰ·tail}
+use mathlib.Core.List.{List, [], _∷_, append-nil, List·Memᴰ}
 use mathlib.Core.Option.{some, none}
 use mathlib.Core.Bool.{true, true≢false}
-use lib.ListN.{getD, length, take}
+use lib.ListN.{getD, length, take, replicate}
 use lib.Seq.{ext-getD}
 use Rattle.lxtr_spec.specs.Numbers.{be32, beWords}
-use Rattle.lxtr_spec.specs.Labels.{labelsOf, comesBefore, Pair}
+use Rattle.lxtr_spec.specs.Labels.{lengthCount, labelsOf, comesBefore, Pair}
 use Rattle.lxtr_spec.specs.Refusals.{unlessRefused, endCount, checkOf}
 use Rattle.lxtr_spec.specs.Searches.{searchRefusal, exactValue, exactOf}
 use Rattle.lxtr_spec.specs.KeyLists.{keysAt, keyCount, pairsOf}
-use Rattle.lxtr_spec.specs.Placing.{baseAt, baseCount, isFree, fits, childCodes}
-use Rattle.lxtr_spec.specs.CodeMaps.{frequency, mapOf}
-use Rattle.lxtr_spec.specs.Builds.{buildOf}
+use Rattle.lxtr_spec.specs.Placing.{baseAt, childCodes}
+use Rattle.lxtr_spec.specs.CodeMaps.{frequency, mapOf, codeIn, labelWith}
+use Rattle.lxtr_spec.specs.Builds.{slotsUsed, imageIn, slotsIn, placedIn, buildOf}
 use Rattle.lxtr_spec.specs.Sets.{PairSet, Has, ImageOf}
 use Rattle.lxtr_spec.specs.Meaning.{Ordered, Lists}
-use Rattle.lxtr_laws.specs.RangeTests.{tests}
 use Rattle.lxtr_laws.specs.Members.{member-at}
 use Rattle.lxtr_laws.specs.Lengths.{words-length}
 use Rattle.lxtr_laws.specs.KeyOrder.{before-self}
@@ -30,18 +29,19 @@ use Rattle.lxtr_build_laws.specs.KeyListFacts.{Ascending, KeysRight}
 use Rattle.lxtr_build_laws.specs.KeyReading.{keys-length}
 use Rattle.lxtr_build_laws.specs.Passing.{list-passed}
 use Rattle.lxtr_build_laws.specs.Maps.{Before, before-is, is-before, before-trans, before-apart, map-members, map-ordered}
-use Rattle.lxtr_build_laws.specs.FirstFit.{Smallest, first-fit-some, first-fit-none, fits-free}
+use Rattle.lxtr_build_laws.specs.FirstFit.{first-fit-some, first-fit-none}
 use Rattle.lxtr_build_laws.specs.Nodes.{Plain}
 use Rattle.lxtr_build_laws.specs.Trees.{placed-slot, placed-node}
 use Rattle.lxtr_build_laws.specs.PairSets.{setOf, set-members}
 use Rattle.lxtr_build_laws.specs.Outcomes.{image-built}
 use Rattle.lxtr_demands.specs.Operations.{defined}
-use Rattle.lxtr_demands.specs.Builder.{ReadsBack, Demand2Builder, Fits, SmallestFit, MayBePlaced, FirstFit, FrequencyBefore, ByFrequency, CodesByFrequency}
+use Rattle.lxtr_demands.specs.Builder.{ReadsBack, SmallestFit, PlacedByFit, MayBePlaced, FirstFit, FrequencyBefore, ByFrequency, CodesByFrequency, FirstFitImage, Demand2Builder}
 use Rattle.lxtr_demands.specs.Laws.Images.{image-passes, known-image}
 use Rattle.lxtr_demands.specs.Laws.Counts.{pairs-counted, listing-counted}
 use Rattle.lxtr_demands.specs.Laws.Demand3.{demand3}
 use Rattle.lxtr_demands.specs.Laws.Demand2.{exact-set, demand2}
 use Rattle.lxtr_laws.specs.ReadBack.{be-words}
+use Rattle.lxtr_demands.specs.Laws.Placings.{of-fits, smallest-fit, one-fit, placed-by-fit, one-placed}
 use Rattle.lxtr_demands.specs.Laws.BuiltImages.{scalar-small, image-of-work}
 
 -- a query written for these labels has these labels
@@ -112,35 +112,7 @@ module _ (keys image : List ℕ) (right : KeysRight (pairsOf keys)) (image-of : 
     completion = λ rs room l h. demand3 image .completion d rs room image-of l h ∙ rw (listing-count rs l);
   }
 
-pub demand2-builder : Demand2Builder defined
-demand2-builder keys work out e =
-    let b = image-built keys work out e in
-    let right : KeysRight (pairsOf keys) = list-passed keys (b .right) .right in
-    let image : List ℕ = take (buildOf keys work out .answer .length) (buildOf keys work out .output) in
-    reads-back keys image right (subst (λ (i : List ℕ). ImageOf i (setOf (pairsOf keys))) (sym (b .is)) (image-of-work (length work) (pairsOf keys) (b .work) (b .words) right (b .few) (b .placed)))
-
 -- ---- first fit
-
-fits-of : (S : ℕ) (w cs : List ℕ) (b : ℕ) → b < baseCount → fits S w cs b ≡ true → Fits S w cs b
-fits-of S w cs b h e = let free = fits-free S w cs b e in record { base-in = h; slot-from = λ c m. free c m .0 .from; slot-to = λ c m. free c m .1; slot-free = λ c m. free c m .0 .zero-check }
-
-of-fits : (S : ℕ) (w cs : List ℕ) (b : ℕ) → Fits S w cs b → fits S w cs b ≡ true
-unfolding fits isFree
-of-fits S w [] b f = refl
-of-fits S w (c ∷ cs) b f = simp tests (
-  (((f .slot-from c (List·Memᴰ·head refl)), f .slot-to c (List·Memᴰ·head refl)), f .slot-free c (List·Memᴰ·head refl)),
-  of-fits S w cs b (record { base-in = f .base-in; slot-from = λ e m. f .slot-from e (List·Memᴰ·tail m); slot-to = λ e m. f .slot-to e (List·Memᴰ·tail m); slot-free = λ e m. f .slot-free e (List·Memᴰ·tail m) }),
-)
-
--- a base that fits, and no smaller one does
-smallest-fit : (S : ℕ) (w cs : List ℕ) (b : ℕ) → b < baseCount → Smallest S w cs 0 b → SmallestFit S w cs b
-smallest-fit S w cs b h s = record {
-  fits = fits-of S w cs b h (s .fit);
-  smallest = λ a f. not-below a (λ l. true≢false (sym (of-fits S w cs a f) ∙ s .none-before a (omega arith) l));
-}
-  where
-    not-below : (a : ℕ) → (a < b → ⊥) → b ≤ a
-    not-below a h = omega arith
 
 plain-of : (S : ℕ) (w : List ℕ) (p : ℕ) → MayBePlaced S w p → Plain S w p
 plain-of S w p m = record {
@@ -156,7 +128,7 @@ first-fit = record {
       subst (SmallestFit S w (childCodes code g [])) (sym base) (smallest-fit S w (childCodes code g []) (n .base) (n .settled .small) (n .settled .smallest));
   found = λ S w cs b e. let r = first-fit-some S w cs b e in smallest-fit S w cs b (r .1) (r .0);
   none-fits = λ S w cs b e f. true≢false (sym (of-fits S w cs b f) ∙ first-fit-none S w cs e b (f .base-in));
-  one-fit = λ S w cs a b f g. omega (arith, f .smallest b (g .fits), g .smallest a (f .fits));
+  one-fit = one-fit;
 }
 
 -- ---- the code map
@@ -170,3 +142,45 @@ codes-by-frequency = record {
   where
     rank-ordered : (ps : List Pair) (labels : List ℕ) → ByFrequency ps labels → Ordered (Before (frequency ps)) labels
     rank-ordered ps labels l = ordered-weaker (FrequencyBefore ps) (Before (frequency ps)) (is-before (frequency ps)) labels (l .ordered)
+
+-- ---- the demand
+
+one-image : (keys : List ℕ) (W : ℕ) (image other : List ℕ) → FirstFitImage keys W image → FirstFitImage keys W other → image ≡ other
+one-image keys W image other f h = go (h .labels) (codes-by-frequency .one-map (pairsOf keys) (f .labels) (h .labels) (f .by-frequency) (h .by-frequency)) (h .work) (h .placed) (h .is)
+  where
+    S : ℕ
+    S = slotsIn W
+
+    go : (labels : List ℕ) → f .labels ≡ labels → (work : List ℕ) → PlacedByFit S (codeIn labels) (labelWith labels) lengthCount 1 (pairsOf keys) (replicate W 0) work
+        → other ≡ imageIn work (slotsUsed work S) labels → image ≡ other
+    go labels e work p is =
+        let p′ : PlacedByFit S (codeIn (f .labels)) (labelWith (f .labels)) lengthCount 1 (pairsOf keys) (replicate W 0) work =
+        subst (λ (l : List ℕ). PlacedByFit S (codeIn l) (labelWith l) lengthCount 1 (pairsOf keys) (replicate W 0) work) (sym e) p in
+        let same = one-placed S (codeIn (f .labels)) (labelWith (f .labels)) lengthCount 1 (pairsOf keys) (replicate W 0) (f .work) work (f .placed) p′ in
+        f .is ∙ rw (e, same) (sym is)
+
+module _ (keys work out : List ℕ) (e : buildOf keys work out .answer .refusal ≡ 0) where
+  abbrev image : List ℕ
+  image = take (buildOf keys work out .answer .length) (buildOf keys work out .output)
+
+  built-by-fit : FirstFitImage keys (length work) image
+  unfolding placedIn
+  built-by-fit =
+      let b = image-built keys work out e in
+      let labels : List ℕ = mapOf (pairsOf keys) in
+      record {
+        labels = labels;
+        by-frequency = codes-by-frequency .listed (pairsOf keys);
+        work = b .work;
+        placed = placed-by-fit (slotsIn (length work)) (codeIn labels) (labelWith labels) lengthCount 1 (pairsOf keys) (replicate (length work) 0) (b .work) (b .placed);
+        is = b .is;
+      }
+
+  built-reads-back : ReadsBack defined keys image
+  built-reads-back =
+      let b = image-built keys work out e in
+      let right : KeysRight (pairsOf keys) = list-passed keys (b .right) .right in
+      reads-back keys image right (subst (λ (i : List ℕ). ImageOf i (setOf (pairsOf keys))) (sym (b .is)) (image-of-work (length work) (pairsOf keys) (b .work) (b .words) right (b .few) (b .placed)))
+
+pub demand2-builder : Demand2Builder defined
+demand2-builder = record { refuses = λ keys work out. refl; first-fit = built-by-fit; one-image = one-image; reads-back = built-reads-back }
