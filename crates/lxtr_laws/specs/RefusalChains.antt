@@ -30,8 +30,15 @@ unfolding firstRefusal
 none-first zero later = (λ e. (refl, e), λ p. p .1)
 none-first (suc n) later = (λ e. absurd (omega arith), λ p. absurd (omega arith))
 
--- the laws for a `return` in a chain of tests: faults that are not there, and one that is
-pub ruleset chain = (refused, goes-on, outcome)
+-- The laws for a `return` in a chain of tests, where r is what the code's test returned: faults that are not there, and one that
+-- is. Each takes one refusal off the goal, so a search by them ends.
+pub refused-by : (r t : Bool) (k later : ℕ) → r ≡ t → r ≡ true → k ≡ refuseIf t k later
+refused-by r t k later e h = refused t k later (outcome r t true e h)
+
+pub goes-on-by : (r t : Bool) (k later n : ℕ) → r ≡ t → r ≡ false → n ≡ later → n ≡ refuseIf t k later
+goes-on-by r t k later n e h = goes-on t k later n (outcome r t false e h)
+
+pub ruleset chain = (refused-by, goes-on-by)
 
 -- a refusal is answered whatever comes after it
 pub first-stands : (n later : ℕ) → (n ≡ 0 → ⊥) → firstRefusal n later ≡ n

@@ -13,11 +13,11 @@ body-refusal-spec =
     tie.close
     (tie.spec
     (λ c κs. search needs)
-    (λ c. search chain depth 14)
+    (λ c. search chain)
     (λ c κs. search needs)
-    (λ c. search chain depth 14)
+    (λ c. search chain)
     (λ c κs. search needs)
-    (λ c. search chain depth 14)
+    (λ c. search chain)
     (λ c κs. (search needs, search outcome))
-    (λ c. search chain depth 14)
-    (λ c. search chain depth 14))
+    (λ c. search chain)
+    (λ c. search chain))
