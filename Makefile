@@ -33,7 +33,7 @@ crosscheck: archive
 	$(call quietly,rt check list_pairs lxtr)
 	@bash .ci/crosscheck
 
-# Times of the C functions beside the independent implementation, on generated key lists.
+# Times of the C functions and of the independent implementation, on generated key lists.
 bench: archive
 	@cd bench && cargo run --release --offline --quiet
 

@@ -16,7 +16,8 @@
  * code       an image lists the labels of its keys; the code of a label is its place in that list, counted from 1. lxtr_build
  *            sorts the labels by the number of keys that contain them, highest first, and equal ones by their own number,
  *            smallest first. A key counts once, however often it contains the label.
- * code order compares keys label by label, by the codes; a key comes before its longer keys. It is not dictionary order.
+ * code order compares keys label by label, by the codes; a key comes before longer keys that begin with it. It is not
+ *            dictionary order.
  *
  * GUARANTEES OF EVERY FUNCTION
  *
@@ -36,11 +37,11 @@
  *
  *     refusal * 2^40  +  2^33 if there is more  +  2^32 if there is a value  +  a value, a count or a length
  *
- * Take it apart with lxtr_refusal, lxtr_more, lxtr_has_value and lxtr_number below. A part that a function does not use is 0.
- * If the refusal is 0, nothing was refused. If not, it is a value of enum lxtr_reason, all other parts are 0, and lent memory
- * is unchanged (but lxtr_build clears its work: see there). If several reasons hold, the answer is the first of them, in the
- * order given at the function. lxtr_fault differs: it answers more beside a refusal, and 0 for an image that lxtr_check refuses
- * with 1 to 8.
+ * Take it apart with lxtr_refusal, lxtr_more, lxtr_has_value and lxtr_number below. A part that a function does not use is 0. If
+ * the refusal is 0, nothing was refused. If not, it is a value of enum lxtr_reason, all other parts are 0, and lent memory is
+ * unchanged (but lxtr_build clears its work: see there). If several reasons hold, the answer is the first of them, in the order
+ * given at the function. lxtr_fault differs: along with a refusal it gives a kind and a number, and it answers 0 for an image that
+ * lxtr_check refuses with 1 to 8.
  *
  * LAYOUT OF AN IMAGE; only needed to understand a refusal
  *
@@ -48,11 +49,11 @@
  * base and check; N + 1 offsets; E children; M bytes of code map. The code map is a version byte 1, the number L of labels in
  * four bytes, and L labels of four bytes each. Numbers have their lowest byte first, but in the code map their highest.
  *
- * Slot 1 stands for the empty front part of the keys, every other used slot for a longer front part or for the end of a key. The
- * check word of a slot holds its parent, the slot one step shorter; the top bit of check says whether a key ends there. The base
- * word holds a number: base XOR a label's code is the child's slot, and base XOR 0 is the slot of the end. The base word of an
- * end holds the value, with the top bit set. A slot from 2 up whose parent is 0 is unused. The children of slot p are those from
- * offset p up to offset p + 1, by ascending code.
+ * Slot 1 stands for the empty prefix, every other used slot for a longer prefix of a key or for the end of a key. The check word
+ * of a slot holds its parent, the slot one step shorter; the top bit of check says whether a key ends there. The base word holds a
+ * number: base XOR a label's code is the child's slot, and base XOR 0 is the slot of the end. The base word of an end holds the
+ * value, with the top bit set. A slot from 2 up whose parent is 0 is unused. The children of slot p are the entries from offset p
+ * up to, but not including, offset p + 1, by ascending code.
  */
 #ifndef LXTR_H
 #define LXTR_H
@@ -115,14 +116,14 @@ enum lxtr_reason {
 	LXTR_KEYS_NOT_ASCENDING = 19,  /* a key is not above the key before it */
 	LXTR_TOO_MANY_LABELS = 20,     /* more than 4,095 different labels */
 	LXTR_WORK_TOO_SMALL = 21,      /* fewer than 4 words of work */
-	LXTR_TOO_FEW_SLOTS = 22,       /* some slot has no place: lend more work; with LXTR_MAX_WORK_WORDS this list cannot be built */
+	LXTR_TOO_FEW_SLOTS = 22,       /* no base fits some slot: lend more work; more than LXTR_MAX_WORK_WORDS does not help */
 	LXTR_OUT_TOO_SMALL = 23        /* the image is longer than out */
 };
 
 /* The kinds of fault of refusal 11, LXTR_WRONG_LISTS, that lxtr_fault tells apart. */
 enum lxtr_list_fault {
 	LXTR_OFFSET_FALLS = 1,         /* the list of this slot ends before it begins */
-	LXTR_WRONG_ENTRY = 2,          /* this entry is no child of the slot whose list it is in, or its code does not rise */
+	LXTR_WRONG_ENTRY = 2,          /* this entry is not a child of the slot whose list it is in, or its code does not rise */
 	LXTR_UNLISTED_SLOT = 3,        /* this used slot is in no list */
 	LXTR_CHILDLESS_SLOT = 4,       /* this used slot is not the end of a key, and has no child */
 	LXTR_ROOT_BASE = 5             /* slot 1 has no child, and its base is not 0 */
@@ -215,7 +216,7 @@ uint64_t lxtr_prefixes(const uint8_t *image, size_t image_length, const uint8_t 
  * Afterwards the room holds a version byte 1, the number of records in four bytes, and the records one after the other. A
  * record is a byte with the number of labels of the key, all labels of the key (those of the prefix too) in four bytes each, and
  * the value in four bytes. Numbers have their highest byte first. Bytes past the last record are unchanged.
- * The room for a whole set is 5 bytes, and for each key 5 bytes plus 4 for each of its labels.
+ * A whole set needs 5 bytes of room, and for each key 5 bytes more plus 4 for each of its labels.
  */
 uint64_t lxtr_complete(const uint8_t *image, size_t image_length, const uint8_t *prefix, size_t prefix_length,
                        uint8_t *room, size_t room_length);
@@ -226,19 +227,18 @@ uint64_t lxtr_complete(const uint8_t *image, size_t image_length, const uint8_t 
  *
  * A key list is a version byte 1, the number of keys in four bytes, and for each key a byte with its number of labels and the
  * labels in four bytes each. Numbers have their highest byte first. Keys ascend, compared label by label by the labels' numbers
- * (not by codes), a key before its longer keys, and no two are equal.
+ * (not by codes), a key before longer keys that begin with it, and no two are equal.
  *
- * work is scratch memory. W words allow W / 2 slots, at most 65,536. Each key needs one slot for its end, and each different
- * front part of the keys needs one. So 2 * (2 + keys + labels of all keys) words are a first guess; if 22 refuses them, lend twice
- * as many. An image built with W words that lists L labels has at most 25 + 8 W + 4 L bytes. The choice of slots can depend on W:
- * to get the same bytes, lend the same number of words. What work holds before the call does not matter. work_length counts
- * words.
+ * work is scratch memory. W words allow W / 2 slots, at most 65,536. Each key needs one slot for its end, and each distinct prefix
+ * of the keys needs one. So 2 * (2 + keys + labels of all keys) words are a first guess; after refusal 22, lend twice as many. An
+ * image built with W words that lists L labels has at most 25 + 8 W + 4 L bytes. The choice of slots can depend on W: to get the
+ * same bytes, lend the same number of words. What work holds before the call does not matter. work_length counts words.
  *
  * Refusals, in this order: 21; 15 for a list of fewer than 5 bytes or another version; 16; then for each key 15 if its length
  * byte is missing, 17, 15 if its labels are cut short, 18, 19; 15 for bytes left over; 20; 22; 23.
  *
  * Afterwards the image is at the front of out, and the other bytes of out are unchanged; a refusal leaves all of out unchanged.
- * All words of work are 0, also after a refusal, except after 21, which leaves them unchanged.
+ * All words of work are 0, even after a refusal, except after 21, which leaves them unchanged.
  */
 uint64_t lxtr_build(const uint8_t *keys, size_t keys_length, uint32_t *work, size_t work_length,
                     uint8_t *out, size_t out_length);

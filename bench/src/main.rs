@@ -75,8 +75,8 @@ fn explanation(effort: Effort) -> String {
 Mean processor time of a call, the least of up to {} passes. One thread, buffers are warm.
 Rust          the independent implementation, from the same bytes to the same answer
 Rust, parsed  the same, but the image was parsed into its vectors before
-ratio         product's time by Rust's
-growth        time with the most keys by time with the fewest
+ratio         product's time divided by Rust's
+growth        time with the most keys divided by time with the fewest
 ",
         effort.sweeps
     )

@@ -211,7 +211,7 @@ fn push_series(bytes: &mut [u8; ROOM], at: usize, series: Series) -> usize {
     next
 }
 
-// Each turn reads at least two characters, so as many turns as the line has characters are enough.
+// Each iteration reads at least two characters, so as many iterations as the line has characters are enough.
 fn read_bytes(line: &[u8], at: usize, bytes: &mut [u8; ROOM]) -> Operand {
     let mut i = at;
     let mut size: usize = 0;

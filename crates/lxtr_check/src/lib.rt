@@ -1,4 +1,4 @@
-// Checks LXTR images: whether any bytes are an image, and of how many pairs. Each of rules 9 to 12 has a crate of its own. Any
+// Checks LXTR images: whether given bytes are an image, and of how many pairs. Each of rules 9 to 12 has a crate of its own. Any
 // caller may use `check`; `image_refusal` and `body_refusal` are for the crates that use this one.
 ghost use mathlib.Core.Path.{_≡_};
 ghost use Prim.Native.Nat.{_<_};

@@ -1,5 +1,5 @@
-// Rule 9: a listed label is no scalar value or is listed twice. Labels with the same remainder modulo CHAINS form a chain, so
-// that a label is compared only with the few earlier labels of its chain.
+// Rule 9: a listed label is no scalar value or is listed twice. A hash table with chaining: labels with the same remainder modulo
+// CHAINS form a chain, so that a label is compared only with the few earlier labels of its chain.
 ghost use mathlib.Core.Path.{_≡_};
 ghost use Prim.Native.Nat.{_+_, _<_};
 ghost use Rattle.lxtr_spec.specs.Ranges.{anyBelow, firstBelow};

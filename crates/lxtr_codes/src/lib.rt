@@ -27,7 +27,7 @@ use lxtr_spec::MAX_LISTED;
 // The size of each table: one more than the number of labels that a code map may list, so that too many are noticed.
 pub const TABLE_SIZE: usize = MAX_LISTED + 1;
 
-// Writes the codes of the labels, and their order, by falling frequency.
+// Writes the codes of the labels, and their order, by descending frequency.
 fn code_labels(
     keys: &[u8],
     labels: &[u32],

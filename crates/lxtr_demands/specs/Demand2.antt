@@ -52,7 +52,7 @@ pub record Answered (o : Operations) (b : List ℕ) (d : PairSet) (q xs : List �
 abbrev pub Demand2 : Operations → Type 0
 Demand2 o = (b : List ℕ) (d : PairSet) (q : List ℕ) → ImageOf b d → length q % 4 ≡ 0 → Answered o b d q (labelsOf q)
 
--- What of this needs no check: if 1 to 8 and 13 refuse nothing, then, whether or not the image is accepted, the searches agree on
+-- What holds without the check: if 1 to 8 and 13 refuse nothing, then, whether or not the image is accepted, the searches agree on
 -- the pairs that exact finds. So prefixes are the lengths and values at which exact finds a value, longest is the last of them,
 -- and probe's value is exact's.
 abbrev pub SearchesAgree : Type 0

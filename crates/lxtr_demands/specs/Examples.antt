@@ -1,6 +1,6 @@
 -- Document 01's examples P1 to P11 as one table: the definitions compute what the rows say. P1 to P3 and P11 are also built.
--- Added to the document's examples are the bytes of these four images and of all listings, the pairs and their number for P1 to P3,
--- the last three rows of P5, and the numbers for the host program.
+-- Added to the document's examples are the bytes of these four images and of all listings, the pairs of P1 to P3, the number of
+-- pairs of all four, the last three rows of P5, that completion refuses P8 to P10 too, and the numbers for the host program.
 use Prim.Native.Nat.{ℕ}
 use mathlib.Core.Path.{refl}
 use mathlib.Core.List.{List, [], _∷_}

@@ -80,7 +80,7 @@ Holds (image-length b n) = length b ≡ n
 Holds (accepted b n) = (checkOf b ≡ record { refusal = 0; pairs = n }) × (checkNumber b ≡ n)
 Holds (refused b k) =
     (checkOf b ≡ record { refusal = k; pairs = 0 }) × (checkNumber b ≡ k * 2 ^ 40)
-    × (completionOf b [] (unwritten 64) ≡ record { answer = record { refusal = k; count = 0; stopped = false }; room = unwritten 64 })
+    × (completionOf b [] (unwritten 40) ≡ record { answer = record { refusal = k; count = 0; stopped = false }; room = unwritten 40 })
 Holds (fault-at b f n) = (faultOf b ≡ f) × (faultNumber b ≡ n)
 Holds (exact b xs v n) = (exactOf b (beWords xs) ≡ record { refusal = 0; value = v }) × (exactNumber b (beWords xs) ≡ n)
 Holds (prefixes b xs lengths values) =

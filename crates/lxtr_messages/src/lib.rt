@@ -92,7 +92,7 @@ pub fn tell(sentence: u8, first: u32, second: u32) {
               value none\n|\
               no key has more than % labels\n|\
               it is not found, but the check refuses the image\n|\
-              it is no key, but longer keys begin with it\n|\
+              it is not a key, but longer keys begin with it\n|\
               no key begins with it\n|\
               longer keys\n|\
               longer none\n|\
@@ -149,8 +149,8 @@ pub fn print_usage() {
           lxtr probe IMAGE WORD         the value of a word; whether longer words begin with it\n\
           lxtr complete IMAGE [PREFIX]  the words that begin with a prefix, in code order\n\
           lxtr build KEYS IMAGE         makes the image of a key list\n\
-          lxtr keys TEXT KEYS           makes a key list of a text, one word per line\n\
-          lxtr draw IMAGE               a graph for Graphviz, what is wrong in red\n\
+          lxtr keys TEXT KEYS           makes a key list from a text file, one word per line\n\
+          lxtr draw IMAGE               a graph for Graphviz, with the fault in red\n\
           lxtr help                     this text\n",
     );
 }

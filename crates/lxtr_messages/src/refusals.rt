@@ -43,20 +43,20 @@ pub fn print_refusal(refusal: u8) {
               refusal 6: the file is not as long as its header says|\
               refusal 7: the code map is malformed, or its length is wrong|\
               refusal 8: the offsets do not go from 0 to the number of children|\
-              refusal 9: the code map lists a label that is no character, or lists one twice|\
+              refusal 9: the code map lists a label that is not a character, or lists one twice|\
               refusal 10: a slot is wrong: words may be lost, or found wrongly|\
               refusal 11: a children list is wrong: completions may lack words that lookups find|\
-              refusal 12: from a slot in use, % steps up do not reach slot 1|\
-              refusal 13: the query is cut within a label|\
+              refusal 12: a used slot does not reach slot 1 in % or fewer steps to the parent|\
+              refusal 13: the query ends in the middle of a label|\
               refusal 14: there is no room for a listing|\
-              refusal 15: the file is no key list, or is cut short or too long|\
+              refusal 15: the file is not a key list, or is cut short or too long|\
               refusal 16: the key list has more than % keys|\
               refusal 17: a key has more than % labels|\
-              refusal 18: a key has a label that is no character|\
+              refusal 18: a key has a label that is not a character|\
               refusal 19: the keys are not sorted, or one occurs twice|\
               refusal 20: the keys have more than % different labels|\
               refusal 21: the scratch memory is too small|\
-              refusal 22: the keys do not go into % slots|\
+              refusal 22: the keys do not fit into % slots|\
               refusal 23: there is no room for the image|",
             refusal,
         ),

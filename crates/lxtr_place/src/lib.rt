@@ -25,8 +25,8 @@ use lxtr_keys::next_key;
 use lxtr_spec::LENGTH_COUNT;
 use lxtr_spec::MAX_KEYS;
 
-// Room for the codes of the children of all slots on the way to a slot. At each of these slots, all codes but one leave at least
-// one key behind, so there are at most this many.
+// Room for the codes of the children of all slots on the way to a slot. At each of these slots, all codes but one belong to keys
+// that do not go on to the next slot, so there are at most this many.
 const ROOM: usize = MAX_KEYS + LENGTH_COUNT;
 
 // Writes where each key starts and, after the last one, where the list ends.

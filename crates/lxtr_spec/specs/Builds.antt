@@ -61,7 +61,7 @@ imageIn w N labels = imageBytes (take (2 * N) w) (offsetsFrom w N (length labels
 unfoldable pub slotsIn : ℕ → ℕ
 slotsIn W = min maxSlots (W / 2)
 
--- Place slot 1's children, ..: all keys pass slot 1, with all their labels left.
+-- Place slot 1's children, ..: all keys pass through slot 1, with all their labels remaining.
 unfoldable pub placedIn : ℕ → List Pair → List ℕ → Option (List ℕ)
 placedIn W ps labels = place (slotsIn W) (codeIn labels) (labelWith labels) lengthCount 1 ps (replicate W 0)
 

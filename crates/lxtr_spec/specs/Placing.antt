@@ -42,7 +42,7 @@ baseCount = 65536
 unfoldable pub firstFit : ℕ → List ℕ → List ℕ → Option ℕ
 firstFit S w cs = firstFitFrom S w cs baseCount 0
 
--- A group is the keys that pass a slot. Each is given as the labels that are left of it there, with its value number.
+-- A group is the keys that pass through a slot. Each is given as its remaining labels there, with its value number.
 -- `code` gives the code of a label, `label` the label of a code.
 
 -- the code of the next label of what is left of a key; code 0 ends a key

@@ -151,7 +151,7 @@ fn run_next(script: &[u8], place: Place, image: &mut [u8; ROOM], bytes: &mut [u8
     }
 }
 
-// There are no more lines than bytes, so as many turns as the script has bytes are enough.
+// There are no more lines than bytes, so as many iterations as the script has bytes are enough.
 fn run_script(script: &[u8], image: &mut [u8; ROOM], bytes: &mut [u8; ROOM]) {
     let mut place = Place { at: 0, size: 0 };
     let mut left = script.len();
