@@ -12,7 +12,7 @@ use Rattle.lxtr_spec.specs.declared.Fault.the-variants.{Nowhere, Label, Slot, O
 use Rattle.lxtr_command_spec.specs.Forms.{filled}
 use Rattle.lxtr_command_spec.specs.Commands.{ascii}
 
--- what is wrong is red, everything else dark grey
+-- a slot or entry that is wrong is red, any other dark grey
 unfoldable pub colour : Bool → ℕ
 colour wrong = cond wrong 0xE00000 0x202020
 

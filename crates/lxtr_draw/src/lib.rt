@@ -22,7 +22,7 @@ use lxtr_image::sections::slot_count;
 use lxtr_spec::Fault;
 use lxtr_text::forms::fill;
 
-// Red for what is wrong, dark grey for everything else.
+// Red for a slot or entry that is wrong, dark grey for any other.
 fn colour(wrong: bool) -> u32
     ensures { λ r. ⌜ r ≡ colour wrong ⌝ }
 {

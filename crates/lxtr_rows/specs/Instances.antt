@@ -137,21 +137,30 @@ exact-differs : exactOf p3 q6e .value ≡ exactOf p3 q61 .value → ⊥
 unfolding computing or-1
 exact-differs e = let z : _≡_ {A = ℕ} 0 1 = ap or-1 e in omega arith
 
-prefixes-differ : (prefixesOf p3 q6e .count ≡ 1) × (prefixesOf p3 q61 .count ≡ 0)
+prefixes-differ : prefixesOf p3 q6e .count ≡ prefixesOf p3 q61 .count → ⊥
 unfolding computing
-prefixes-differ = (refl, refl)
+prefixes-differ e = let z : _≡_ {A = ℕ} 1 0 = e in omega arith
 
-longest-differ : (length (longestOf p3 q6e .part) ≡ 4) × (length (longestOf p3 q61 .part) ≡ 0)
+longest-differs : length (longestOf p3 q6e .part) ≡ length (longestOf p3 q61 .part) → ⊥
 unfolding computing
-longest-differ = (refl, refl)
+longest-differs e = let z : _≡_ {A = ℕ} 4 0 = e in omega arith
 
 probe-differs : probeOf p3 q6e .value ≡ probeOf p3 q61 .value → ⊥
 unfolding computing or-1
 probe-differs e = let z : _≡_ {A = ℕ} 0 1 = ap or-1 e in omega arith
 
-longer-differs : (probeOf p3 q6e .longer ≡ true) × (probeOf p3 q6e61 .longer ≡ false)
+longer-differs : probeOf p3 q6e .longer ≡ probeOf p3 q6e61 .longer → ⊥
 unfolding computing
-longer-differs = (refl, refl)
+longer-differs e = true≢false e
+
+-- the same answer to all queries of whole labels
+abbrev pub Constant : {A : Type 0} → (List ℕ → A) → Type 0
+Constant f = (q r : List ℕ) → length q % 4 ≡ 0 → length r % 4 ≡ 0 → f q ≡ f r
+
+-- one that answers what the definition answers is not constant, if the definition tells two queries apart
+constant-fails : {A : Type 0} (mine theirs : List ℕ → A) → ((q : List ℕ) → length q % 4 ≡ 0 → mine q ≡ theirs q)
+    → (q r : List ℕ) → length q % 4 ≡ 0 → length r % 4 ≡ 0 → (theirs q ≡ theirs r → ⊥) → Constant mine → ⊥
+constant-fails mine theirs only q r whole whole′ differ same = differ (sym (only q whole) ∙ same q r whole whole′ ∙ only r whole′)
 
 -- two lent rooms over P11: one for all pairs, and one for none
 abbrev blank : ℕ → List ℕ
@@ -209,39 +218,25 @@ module _ (o : Operations) (meets : Demand2 o) where
       meets b d q image whole .completion ps fit room are h front ∙ sym (answered .completion ps fit room are h front)
 
   -- A search with a constant answer fails, on P4 to P6: exact, prefixes, longest, and both parts of probe.
-  pub constant-exact-fails : ((q r : List ℕ) → length q % 4 ≡ 0 → length r % 4 ≡ 0 → o .exact p3 q .value ≡ o .exact p3 r .value) → ⊥
-  constant-exact-fails same = exact-differs (sym (value q6e refl) ∙ same q6e q61 refl refl ∙ value q61 refl)
-    where
-      value : (q : List ℕ) → length q % 4 ≡ 0 → o .exact p3 q .value ≡ exactOf p3 q .value
-      value q whole = ap (λ (a : ExactAnswer). a .value) (only-exact p3 q p3-is-image whole)
+  pub constant-exact-fails : Constant (λ q. o .exact p3 q .value) → ⊥
+  constant-exact-fails = constant-fails (λ q. o .exact p3 q .value) (λ q. exactOf p3 q .value)
+      (λ q whole. ap (λ (a : ExactAnswer). a .value) (only-exact p3 q p3-is-image whole)) q6e q61 refl refl exact-differs
 
-  pub constant-prefixes-fail : ((q r : List ℕ) → length q % 4 ≡ 0 → length r % 4 ≡ 0 → o .prefixes p3 q .count ≡ o .prefixes p3 r .count) → ⊥
-  constant-prefixes-fail same = omega (arith, same q6e q61 refl refl, count q6e refl, count q61 refl, prefixes-differ .0, prefixes-differ .1)
-    where
-      count : (q : List ℕ) → length q % 4 ≡ 0 → o .prefixes p3 q .count ≡ prefixesOf p3 q .count
-      count q whole = ap (λ (a : Prefixes). a .count) (only-prefixes p3 q p3-is-image whole)
+  pub constant-prefixes-fail : Constant (λ q. o .prefixes p3 q .count) → ⊥
+  constant-prefixes-fail = constant-fails (λ q. o .prefixes p3 q .count) (λ q. prefixesOf p3 q .count)
+      (λ q whole. ap (λ (a : Prefixes). a .count) (only-prefixes p3 q p3-is-image whole)) q6e q61 refl refl prefixes-differ
 
-  pub constant-longest-fails : ((q r : List ℕ) → length q % 4 ≡ 0 → length r % 4 ≡ 0 → length (o .longest p3 q .part) ≡ length (o .longest p3 r .part)) → ⊥
-  constant-longest-fails same = omega (arith, same q6e q61 refl refl, size q6e refl, size q61 refl, longest-differ .0, longest-differ .1)
-    where
-      size : (q : List ℕ) → length q % 4 ≡ 0 → length (o .longest p3 q .part) ≡ length (longestOf p3 q .part)
-      size q whole = ap (λ (a : LongestAnswer). length (a .part)) (only-longest p3 q p3-is-image whole)
+  pub constant-longest-fails : Constant (λ q. length (o .longest p3 q .part)) → ⊥
+  constant-longest-fails = constant-fails (λ q. length (o .longest p3 q .part)) (λ q. length (longestOf p3 q .part))
+      (λ q whole. ap (λ (a : LongestAnswer). length (a .part)) (only-longest p3 q p3-is-image whole)) q6e q61 refl refl longest-differs
 
-  probes : (q : List ℕ) → length q % 4 ≡ 0 → o .probe p3 q ≡ probeOf p3 q
-  probes q whole = only-probe p3 q p3-is-image whole
+  pub constant-value-fails : Constant (λ q. o .probe p3 q .value) → ⊥
+  constant-value-fails = constant-fails (λ q. o .probe p3 q .value) (λ q. probeOf p3 q .value)
+      (λ q whole. ap (λ (a : ProbeAnswer). a .value) (only-probe p3 q p3-is-image whole)) q6e q61 refl refl probe-differs
 
-  pub constant-value-fails : ((q r : List ℕ) → length q % 4 ≡ 0 → length r % 4 ≡ 0 → o .probe p3 q .value ≡ o .probe p3 r .value) → ⊥
-  constant-value-fails same =
-      probe-differs (sym (value q6e refl) ∙ same q6e q61 refl refl ∙ value q61 refl)
-    where
-      value : (q : List ℕ) → length q % 4 ≡ 0 → o .probe p3 q .value ≡ probeOf p3 q .value
-      value q whole = ap (λ (a : ProbeAnswer). a .value) (probes q whole)
-
-  pub constant-longer-fails : ((q r : List ℕ) → length q % 4 ≡ 0 → length r % 4 ≡ 0 → o .probe p3 q .longer ≡ o .probe p3 r .longer) → ⊥
-  constant-longer-fails same = true≢false (sym (longer-differs .0) ∙ sym (longer q6e refl) ∙ same q6e q6e61 refl refl ∙ longer q6e61 refl ∙ longer-differs .1)
-    where
-      longer : (q : List ℕ) → length q % 4 ≡ 0 → o .probe p3 q .longer ≡ probeOf p3 q .longer
-      longer q whole = ap (λ (a : ProbeAnswer). a .longer) (probes q whole)
+  pub constant-longer-fails : Constant (λ q. o .probe p3 q .longer) → ⊥
+  constant-longer-fails = constant-fails (λ q. o .probe p3 q .longer) (λ q. probeOf p3 q .longer)
+      (λ q whole. ap (λ (a : ProbeAnswer). a .longer) (only-probe p3 q p3-is-image whole)) q6e q6e61 refl refl longer-differs
 
   -- A completion that writes nothing fails, on P11.
   pub idle-completion-fails : ((room : List ℕ) → 5 ≤ length room → o .complete p11 [] room .room ≡ room) → ⊥

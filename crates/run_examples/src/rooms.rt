@@ -8,7 +8,7 @@ pub const WORK_WORDS: usize = 16384;
 
 pub const OUTPUT_ROOM: usize = 147480;
 
-pub const LISTING_ROOM: usize = 300;
+pub const LISTING_ROOM: usize = 512;
 
 // What they are filled with before a call.
 pub const FILLING_WORD: u32 = 7;

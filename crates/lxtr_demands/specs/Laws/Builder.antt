@@ -145,6 +145,7 @@ codes-by-frequency = record {
 
 -- ---- the demand
 
+-- two first-fit images of a key list have the same code map, and so the same work
 one-image : (keys : List ℕ) (W : ℕ) (image other : List ℕ) → FirstFitImage keys W image → FirstFitImage keys W other → image ≡ other
 one-image keys W image other f h = go (h .labels) (codes-by-frequency .one-map (pairsOf keys) (f .labels) (h .labels) (f .by-frequency) (h .by-frequency)) (h .work) (h .placed) (h .is)
   where
