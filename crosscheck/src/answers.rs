@@ -15,7 +15,7 @@ const MORE: u64 = 1 << 33;
 const VALUE: u64 = 1 << 32;
 /// The parts of rule 11, numbered from 1.
 const PART: u64 = 1 << 34;
-/// Words of `places`: a length and a value for each length from 0 to 64.
+/// Words of `places`: a length and a value for each length from 0 to the limit of a key.
 pub const PLACE_WORDS: usize = 2 * (KEY_LABELS + 1);
 
 fn number<T>(result: Result<T, Refusal>, found: impl FnOnce(T) -> u64) -> u64 {
@@ -61,7 +61,7 @@ pub fn longest(rules: Rules, image: &[u8], query: &[u8]) -> u64 {
     number(search::longest(rules, image, query), |front| front.len() as u64 / 4)
 }
 
-/// Writes the 65 pairs of length and value into `places`, as many words as fit.
+/// Writes a pair of length and value for each possible length into `places`, as many words as fit.
 pub fn prefixes(rules: Rules, image: &[u8], query: &[u8], places: &mut [u32]) -> u64 {
     let found = search::prefixes(rules, image, query);
     if found.is_err() && rules.breaks(Wrong::PlacesClearedByRefusal) {

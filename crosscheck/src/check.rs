@@ -119,8 +119,8 @@ fn may_be_childless(rules: Rules, image: &Image, slot: u32) -> bool {
 /// or in a cycle.
 fn depths_right(rules: Rules, image: &Image) -> bool {
     let (unknown, on_chain) = (u32::MAX, u32::MAX - 1);
-    let limit = rules.either(STEPS, Wrong::SixtySixSteps, 66);
-    let limit = rules.either(limit, Wrong::SixtyFourSteps, 64);
+    let limit = rules.either(STEPS, Wrong::OneStepTooMany, STEPS + 1);
+    let limit = rules.either(limit, Wrong::OneStepTooFew, STEPS - 1);
     let mut depths = vec![unknown; image.nodes.len()];
     depths[1] = 0;
     for start in image.used_from_2() {

@@ -9,7 +9,7 @@ pub const SLOTS: usize = 65_536;
 /// The most keys of a key list.
 pub const KEYS: u32 = 32_768;
 /// The most steps from an end to slot 1: one for each label, one for the end.
-pub const STEPS: u32 = 65;
+pub const STEPS: u32 = KEY_LABELS as u32 + 1;
 
 /// A refusal by its number in document 01.
 #[derive(Clone, Copy, Debug, PartialEq, Eq)]

@@ -1,8 +1,8 @@
 //! P1 to P11 and the run examples of document 01, as tests of this implementation.
 
-use crate::answers;
+use crate::answers::{self, PLACE_WORDS};
 use crate::builder::image_of;
-use crate::common::{query_of, Refusal};
+use crate::common::{query_of, Refusal, KEY_LABELS};
 use crate::fault;
 use crate::image::{CodeMap, Image, Lists, Node};
 use crate::keylist::to_bytes;
@@ -98,11 +98,11 @@ fn p4_exact() {
 #[test]
 fn p5_prefixes() {
     let (image, query) = (p3().to_bytes(), query_of(&[0x6E, 0x61, 0x6E]));
-    let mut places = [9; 131];
+    let mut places = [9; PLACE_WORDS + 1];
     assert_eq!(answers::prefixes(DOCUMENT, &image, &query, &mut places), 2);
     assert_eq!(places[..4], [1, 0, 2, 1]);
-    assert_eq!(places[4..130], [0; 126]);
-    assert_eq!(places[130], 9);
+    assert_eq!(places[4..PLACE_WORDS], [0; PLACE_WORDS - 4]);
+    assert_eq!(places[PLACE_WORDS], 9);
     assert_eq!(answers::longest(DOCUMENT, &image, &query), 2);
 }
 
@@ -192,8 +192,8 @@ fn p11_code_order() {
 #[test]
 fn run_examples() {
     let refusal = |key: &[u32]| image_of(DOCUMENT, &to_bytes(&[key.to_vec()]), 1_000).err();
-    assert_eq!(refusal(&[7; 64]), None);
-    assert_eq!(refusal(&[7; 65]), Some(Refusal(17)));
+    assert_eq!(refusal(&[7; KEY_LABELS]), None);
+    assert_eq!(refusal(&[7; KEY_LABELS + 1]), Some(Refusal(17)));
     assert_eq!(refusal(&[0xD7FF]), None);
     assert_eq!(refusal(&[0xD800]), Some(Refusal(18)));
     let equal = to_bytes(&[vec![7], vec![7]]);

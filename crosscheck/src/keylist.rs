@@ -34,7 +34,7 @@ fn first_key(rules: Rules, bytes: &[u8]) -> Result<(Key, &[u8]), Refusal> {
     let cut = labels.len() < length;
     let no_scalar = labels.iter().any(|label| !may_be_label(rules, *label));
     refuse_if(cut && rules.breaks(Wrong::CutBeforeLength), 15)?;
-    refuse_if(length > rules.either(KEY_LABELS, Wrong::SixtyFiveLabels, 65), 17)?;
+    refuse_if(length > rules.either(KEY_LABELS, Wrong::OneLabelTooMany, KEY_LABELS + 1), 17)?;
     refuse_if(no_scalar && rules.breaks(Wrong::ScalarBeforeCut), 18)?;
     refuse_if(cut, 15)?;
     refuse_if(no_scalar, 18)?;

@@ -84,15 +84,15 @@ impl Image {
     }
 
     pub fn exact(&self, rules: Rules, labels: &[u32]) -> Option<u32> {
-        if labels.len() > KEY_LABELS && rules.keeps(Wrong::ExactPast64Labels) {
+        if labels.len() > KEY_LABELS && rules.keeps(Wrong::ExactPastTheLimit) {
             return None;
         }
         self.value_at(rules, self.slot_of(rules, labels)?)
     }
 
     pub fn prefixes(&self, rules: Rules, labels: &[u32]) -> Vec<Match> {
-        let counting = rules.either(KEY_LABELS, Wrong::PrefixesPast64Labels, usize::MAX);
-        let counting = rules.either(counting, Wrong::PrefixesStopAt63, 63);
+        let counting = rules.either(KEY_LABELS, Wrong::PrefixesPastTheLimit, usize::MAX);
+        let counting = rules.either(counting, Wrong::PrefixesStopOneEarly, KEY_LABELS - 1);
         let front = &labels[..labels.len().min(counting)];
         let slots = self.trail(rules, front).into_iter().enumerate();
         slots
@@ -110,7 +110,7 @@ impl Image {
     }
 
     pub fn probe(&self, rules: Rules, labels: &[u32]) -> Probe {
-        let too_long = labels.len() > KEY_LABELS && rules.keeps(Wrong::ProbePast64Labels);
+        let too_long = labels.len() > KEY_LABELS && rules.keeps(Wrong::ProbePastTheLimit);
         match self.slot_of(rules, labels) {
             Some(slot) if !too_long => Probe {
                 value: self.value_at(rules, slot),

@@ -4,6 +4,7 @@
 //! Run with `cargo run --release --offline --bin words`, after the command
 //! `../target/bin/lxtr` has been built.
 
+use crosscheck::common::KEY_LABELS;
 use crosscheck::keylist::{to_bytes, Key};
 use crosscheck::random::Random;
 use std::collections::BTreeSet;
@@ -20,7 +21,7 @@ enum Reading {
     KeepsMarks,
     KeepsEmptyLines,
     CountsLinesFromZero,
-    TakesSixtyFiveLabels,
+    TakesOneLabelTooMany,
     ReplacesBadBytes,
 }
 
@@ -29,12 +30,12 @@ const WRONG: [Reading; 6] = [
     Reading::KeepsMarks,
     Reading::KeepsEmptyLines,
     Reading::CountsLinesFromZero,
-    Reading::TakesSixtyFiveLabels,
+    Reading::TakesOneLabelTooMany,
     Reading::ReplacesBadBytes,
 ];
 
 /// The key of the word on a line, if there is one, or what the command says about it.
-fn key_of(reading: Reading, line: &[u8]) -> Result<Option<Key>, &'static str> {
+fn key_of(reading: Reading, line: &[u8]) -> Result<Option<Key>, String> {
     let word = match line {
         [word @ .., b'\r'] if reading != Reading::KeepsReturns => word,
         word => word,
@@ -44,11 +45,12 @@ fn key_of(reading: Reading, line: &[u8]) -> Result<Option<Key>, &'static str> {
         Err(_) if reading == Reading::ReplacesBadBytes => {
             String::from_utf8_lossy(word).into_owned()
         }
-        Err(_) => return Err("this is not UTF-8"),
+        Err(_) => return Err("this is not UTF-8".to_string()),
     };
     let key: Key = text.chars().map(u32::from).collect();
-    if key.len() > 64 && !(key.len() == 65 && reading == Reading::TakesSixtyFiveLabels) {
-        return Err("the word has more than 64 labels");
+    let most = KEY_LABELS + usize::from(reading == Reading::TakesOneLabelTooMany);
+    if key.len() > most {
+        return Err(format!("the word has more than {KEY_LABELS} labels"));
     }
     let is_word = !key.is_empty() || reading == Reading::KeepsEmptyLines;
     Ok(is_word.then_some(key))
@@ -114,7 +116,8 @@ fn random_text(random: &mut Random) -> Vec<u8> {
         text.extend([0xEF, 0xBB, 0xBF]);
     }
     for _ in 0..random.below(12) {
-        let length = if random.one_in(40) { 63 + random.below(4) } else { random.below(4) };
+        let length =
+            if random.one_in(40) { KEY_LABELS - 1 + random.below(4) } else { random.below(4) };
         for _ in 0..length {
             put_character(random, &mut text);
         }

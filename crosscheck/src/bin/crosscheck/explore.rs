@@ -4,7 +4,7 @@ use crate::call::Call;
 use crate::comparison::Comparison;
 use crate::queries::any_query;
 use crosscheck::answers::PLACE_WORDS;
-use crosscheck::common::query_of;
+use crosscheck::common::{query_of, KEY_LABELS};
 use crosscheck::image::Image;
 use crosscheck::keylist::Key;
 use crosscheck::random::Random;
@@ -30,7 +30,7 @@ pub fn any_search(comparison: &mut Comparison, random: &mut Random, image: &[u8]
 
 pub fn any_places(random: &mut Random) -> usize {
     match random.below(4) {
-        0 => random.below(140),
+        0 => random.below(PLACE_WORDS + 10),
         1 => random.below(8),
         _ => PLACE_WORDS,
     }
@@ -59,7 +59,7 @@ pub fn explore(
     }
 }
 
-/// `places` of every length from 0 to 140 for one query.
+/// `places` of every length from 0 to past what is needed, for one query.
 fn every_places_length(
     comparison: &mut Comparison,
     random: &mut Random,
@@ -67,7 +67,7 @@ fn every_places_length(
     keys: &[Key],
 ) {
     let (bytes, query) = (image.to_bytes(), any_query(random, image, keys));
-    for places in 0..=140 {
+    for places in 0..=PLACE_WORDS + 10 {
         comparison.call(Call::Prefixes { image: &bytes, query: &query, places });
     }
 }
@@ -105,7 +105,7 @@ fn record_ends(image: &[u8], prefix: &[u8]) -> Vec<usize> {
     let Ok(image) = Image::parse(Rules::DOCUMENT, image) else {
         return ends;
     };
-    let room = 5 + image.lists.children.len() * (5 + 4 * 64);
+    let room = 5 + image.lists.children.len() * (5 + 4 * KEY_LABELS);
     let mut records = vec![0; room.min(1 << 20)];
     let bytes = image.to_bytes();
     let Ok(completed) =

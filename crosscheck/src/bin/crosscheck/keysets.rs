@@ -50,11 +50,11 @@ pub fn keys_over(random: &mut Random, alphabet: &[u32], count: usize, longest: u
 pub fn small(random: &mut Random) -> Vec<Key> {
     let alphabet = alphabet(random);
     let count = random.pick(&[0, 1, 1, 2, 3, 4, 6, 9, 14, 25]);
-    let longest = random.pick(&[1, 2, 3, 4, 7, 64]);
+    let longest = random.pick(&[1, 2, 3, 4, 7, KEY_LABELS]);
     keys_over(random, &alphabet, count, longest)
 }
 
-/// Every prefix of one key of 64 labels, the empty one too.
+/// Every prefix of one key at the limit, the empty one too.
 pub fn all_prefixes(random: &mut Random) -> Vec<Key> {
     let alphabet = alphabet(random);
     let key: Key = (0..KEY_LABELS).map(|_| random.pick(&alphabet)).collect();

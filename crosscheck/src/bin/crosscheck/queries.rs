@@ -1,7 +1,7 @@
 //! Queries for an image: present, absent, too long, cut within a label, or with foreign labels.
 
 use crate::keysets::{EDGE_LABELS, NO_SCALARS};
-use crosscheck::common::query_of;
+use crosscheck::common::{query_of, KEY_LABELS};
 use crosscheck::image::Image;
 use crosscheck::keylist::Key;
 use crosscheck::random::Random;
@@ -10,7 +10,8 @@ use crosscheck::random::Random;
 pub fn any_query(random: &mut Random, image: &Image, keys: &[Key]) -> Vec<u8> {
     let mut labels = any_labels(random, image, keys);
     if random.one_in(12) {
-        let length = random.pick(&[63, 64, 65, 66, 200]);
+        let lengths: Vec<usize> = (KEY_LABELS - 1..=KEY_LABELS + 2).chain([200]).collect();
+        let length = random.pick(&lengths);
         while labels.len() < length {
             labels.push(any_label(random, image));
         }
@@ -42,7 +43,8 @@ fn any_labels(random: &mut Random, image: &Image, keys: &[Key]) -> Vec<u32> {
         5 => labels = (0..random.below(5)).map(|_| any_label(random, image)).collect(),
         6 => labels = Vec::new(),
         _ => {
-            let length = random.pick(&[1, 2, 3, 5, 64, 65, 66, 70]);
+            let long = [0, 1, 2, 6].map(|past| KEY_LABELS + past);
+            let length = random.pick(&[[1, 2, 3, 5], long].concat());
             labels = walk(random, image, length);
         }
     }

@@ -3,6 +3,7 @@
 use crate::call::Call;
 use crate::comparison::Comparison;
 use crate::keysets::{self, NO_SCALARS};
+use crosscheck::common::KEY_LABELS;
 use crosscheck::keylist::{to_bytes, Key};
 use crosscheck::random::Random;
 
@@ -83,13 +84,13 @@ fn bad_keys(comparison: &mut Comparison, random: &mut Random, keys: &[Key], at: 
         other[at] = key;
         lists.push(other);
     };
-    for length in [63, 64, 65, 66, 255] {
+    for length in (KEY_LABELS - 1..=KEY_LABELS + 2).chain([255]) {
         with(vec![keys[at].first().copied().unwrap_or(7); length]);
     }
     for label in NO_SCALARS.into_iter().chain([0xD7FF, 0xE000, 0x10_FFFF]) {
         with([keys[at].as_slice(), &[label]].concat());
         with([&[label], keys[at].as_slice()].concat());
-        with(vec![label; 65]);
+        with(vec![label; KEY_LABELS + 1]);
     }
     let insert = |key: Key| {
         let mut other = keys.to_vec();
@@ -111,9 +112,9 @@ fn bad_keys(comparison: &mut Comparison, random: &mut Random, keys: &[Key], at: 
 /// A length byte changed without the labels it counts.
 fn lengths_alone(comparison: &mut Comparison, random: &mut Random, keys: &[Key], at: usize) {
     let place = to_bytes(&keys[..at]).len();
-    for length in [0, 1, 2, 3, 5, 63, 64, 65, 128, 255] {
+    for length in [0, 1, 2, 3, 5, KEY_LABELS - 1, KEY_LABELS, KEY_LABELS + 1, 128, 255] {
         let mut list = to_bytes(keys);
-        list[place] = length;
+        list[place] = length as u8;
         build(comparison, random, &list);
     }
 }
@@ -130,7 +131,7 @@ pub fn random_faults(random: &mut Random, keys: &[Key]) -> Vec<u8> {
         1 => list.extend(&[1, 0, 0, 0, 9][..random.below(6)]),
         2 => {
             let at = random.below(list.len());
-            list[at] = random.pick(&[0, 1, 2, 64, 65, 0x80, 0xD8, 0xFF]);
+            list[at] = random.pick(&[0, 1, 2, KEY_LABELS, KEY_LABELS + 1, 0x80, 0xD8, 0xFF]) as u8;
         }
         3 => list[4] = list[4].wrapping_add(random.pick(&[1, 0xFF])),
         _ => {}
@@ -142,7 +143,7 @@ fn key_fault(random: &mut Random, keys: &mut Vec<Key>) {
     let at = random.below(keys.len());
     match random.below(5) {
         0 => keys[at].push(random.pick(&NO_SCALARS)),
-        1 => keys[at].resize(random.pick(&[64, 65, 70]), 5),
+        1 => keys[at].resize(random.pick(&[KEY_LABELS, KEY_LABELS + 1, KEY_LABELS + 6]), 5),
         2 => keys.insert(at, keys[at].clone()),
         3 => keys.reverse(),
         _ if keys[at].is_empty() => keys[at].push(0xDC00),

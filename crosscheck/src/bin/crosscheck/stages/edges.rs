@@ -5,7 +5,8 @@ use crate::comparison::Comparison;
 use crate::explore::{complete_at_borders, search};
 use crate::keysets::one_label_each;
 use crate::placer::{place, with_values};
-use crosscheck::common::query_of;
+use crosscheck::answers::PLACE_WORDS;
+use crosscheck::common::{query_of, KEY_LABELS};
 use crosscheck::image::Image;
 use crosscheck::keylist::{to_bytes, Key};
 use crosscheck::random::Random;
@@ -32,7 +33,7 @@ fn listed_labels(comparison: &mut Comparison, random: &mut Random) {
         random.shuffle(&mut labels);
         let image = place(random, &pairs, labels, 1).to_bytes();
         comparison.image(&image);
-        search(comparison, &image, &query_of(&[0x6E, 0x61]), 130);
+        search(comparison, &image, &query_of(&[0x6E, 0x61]), PLACE_WORDS);
         complete_at_borders(comparison, random, &image, &[]);
     }
 }
@@ -46,12 +47,10 @@ fn used_labels(comparison: &mut Comparison) {
             comparison.call(Call::Build { keys: &list, work, out });
         }
     }
-    let long: Vec<Key> =
-        (0..64).map(|at| (0..64).map(|label| 0x3_0000 + 64 * at + label).collect()).collect();
-    for kept in [64, 63] {
-        // 64 keys of 64 labels have 4,096 of them, one too many.
-        let mut keys = long.clone();
-        keys[63].truncate(kept);
+    // The same in long keys: 4,096 labels are one too many, 4,095 are not.
+    for labels in [4_096, 4_095] {
+        let labels: Vec<u32> = (0x3_0000..).take(labels).collect();
+        let keys: Vec<Key> = labels.chunks(KEY_LABELS).map(<[u32]>::to_vec).collect();
         comparison.call(Call::Build { keys: &to_bytes(&keys), work: 20_000, out: 200_000 });
     }
 }
@@ -74,7 +73,7 @@ fn many_slots(comparison: &mut Comparison, random: &mut Random, slots: usize) {
     image.relist();
     let bytes = image.to_bytes();
     comparison.image(&bytes);
-    search(comparison, &bytes, &query_of(&[0x6E, 0x61]), 130);
+    search(comparison, &bytes, &query_of(&[0x6E, 0x61]), PLACE_WORDS);
     comparison.call(Call::Complete { image: &bytes, prefix: &[], room: 100 });
     comparison.check(&bytes[..bytes.len() - 1]);
     for slot in [slots / 2, slots - 1] {
@@ -99,7 +98,7 @@ fn edge_counts(comparison: &mut Comparison, random: &mut Random) {
         }
         let bytes = other.to_bytes();
         comparison.image(&bytes);
-        search(comparison, &bytes, &query_of(&[0x6E]), 130);
+        search(comparison, &bytes, &query_of(&[0x6E]), PLACE_WORDS);
         comparison.call(Call::Complete { image: &bytes, prefix: &[], room: 100 });
     }
 }

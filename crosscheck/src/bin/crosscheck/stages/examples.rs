@@ -3,6 +3,7 @@
 use crate::call::Call;
 use crate::comparison::Comparison;
 use crate::explore::{complete_at_every_size, search, search_all_fronts};
+use crosscheck::answers::PLACE_WORDS;
 use crosscheck::builder::image_of;
 use crosscheck::common::query_of;
 use crosscheck::image::{CodeMap, Image, Lists, Node};
@@ -35,12 +36,12 @@ fn example(comparison: &mut Comparison, keys: &[Key]) {
     comparison.image(&image);
     search_all_fronts(comparison, &image, keys);
     for labels in [vec![0x61], vec![0x78], vec![0x6E, 0x61, 0x6E], vec![0x6E, 0], vec![0xD800]] {
-        search(comparison, &image, &query_of(&labels), 131);
+        search(comparison, &image, &query_of(&labels), PLACE_WORDS + 1);
         complete_at_every_size(comparison, &image, &query_of(&labels));
     }
     complete_at_every_size(comparison, &image, &[]);
     for cut in 1..12 {
-        search(comparison, &image, &query_of(&[0x6E, 0x61, 0x6E])[..cut], 130);
+        search(comparison, &image, &query_of(&[0x6E, 0x61, 0x6E])[..cut], PLACE_WORDS);
         comparison.call(Call::Complete { image: &image, prefix: &[0; 12][..cut], room: cut });
     }
 }
@@ -63,7 +64,7 @@ fn changed_examples(comparison: &mut Comparison, p3: &Image) {
             comparison.call(Call::Complete { image: &image, prefix: &[], room });
         }
         for labels in [&[][..], &[0x6E], &[0x6E, 0x61], &[0x61], &[0x61, 0x61]] {
-            search(comparison, &image, &query_of(labels), 130);
+            search(comparison, &image, &query_of(labels), PLACE_WORDS);
         }
     }
 }

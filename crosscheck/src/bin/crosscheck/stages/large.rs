@@ -8,6 +8,7 @@ use crate::explore::explore;
 use crate::keysets::{all_strings, keys_over, one_label_each};
 use crate::placer::{any_code_order, place, with_values};
 use crosscheck::builder::image_of;
+use crosscheck::common::KEY_LABELS;
 use crosscheck::keylist::{to_bytes, Key};
 use crosscheck::random::Random;
 use crosscheck::rules::Rules;
@@ -15,7 +16,7 @@ use crosscheck::rules::Rules;
 pub fn run(comparison: &mut Comparison, random: &mut Random) {
     let kana: Vec<u32> = (0x3041..=0x3096).collect();
     let bytes: Vec<u32> = (0..=255).collect();
-    let deep = keys_over(random, &kana[..20], 60, 64);
+    let deep = keys_over(random, &kana[..20], 60, KEY_LABELS);
     let thousands = keys_over(random, &kana, 2_000, 5);
     let byte_keys = keys_over(random, &bytes, 1_500, 3);
     for keys in [deep, thousands, byte_keys, one_label_each(4_095)] {

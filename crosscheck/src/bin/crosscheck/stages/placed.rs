@@ -8,7 +8,8 @@ use crate::explore::{any_search, explore, search};
 use crate::keysets;
 use crate::placer::{add_ring, any_code_order, place, rehang, with_values, Pairs};
 use crate::queries::any_query;
-use crosscheck::common::query_of;
+use crosscheck::answers::PLACE_WORDS;
+use crosscheck::common::{query_of, KEY_LABELS};
 use crosscheck::image::Image;
 use crosscheck::keylist::Key;
 use crosscheck::random::Random;
@@ -18,7 +19,8 @@ pub fn run(comparison: &mut Comparison, random: &mut Random, amount: usize) {
         let keys = keysets::small(random);
         same_set_elsewhere(comparison, random, &keys);
     }
-    for length in [60, 63, 64, 65, 66, 67, 100, 200] {
+    let near = KEY_LABELS - 1..=KEY_LABELS + 3;
+    for length in [KEY_LABELS - 4].into_iter().chain(near).chain([100, 200]) {
         for _ in 0..6 * amount {
             chain(comparison, random, length);
         }
@@ -65,7 +67,7 @@ fn chain(comparison: &mut Comparison, random: &mut Random, length: usize) {
     let alphabet = keysets::alphabet(random);
     let key: Key = (0..length).map(|_| random.pick(&alphabet)).collect();
     let mut keys = vec![key.clone()];
-    for front in [0, 1, 62, 63, 64, 65] {
+    for front in [0, 1].into_iter().chain(KEY_LABELS - 2..=KEY_LABELS + 1) {
         if front < length && random.one_in(2) {
             keys.push(key[..front].to_vec());
         }
@@ -74,10 +76,10 @@ fn chain(comparison: &mut Comparison, random: &mut Random, length: usize) {
     let image = placed(random, &pairs);
     let bytes = image.to_bytes();
     comparison.image(&bytes);
-    for front in [0, 1, 62, 63, 64, 65, 66, length] {
+    for front in [0, 1].into_iter().chain(KEY_LABELS - 2..=KEY_LABELS + 2).chain([length]) {
         let query = query_of(&key[..front.min(length)]);
-        search(comparison, &bytes, &query, 135);
-        search(comparison, &bytes, &[query.as_slice(), &[0, 0, 0, 1]].concat(), 130);
+        search(comparison, &bytes, &query, PLACE_WORDS + 5);
+        search(comparison, &bytes, &[query.as_slice(), &[0, 0, 0, 1]].concat(), PLACE_WORDS);
         comparison.call(Call::Complete { image: &bytes, prefix: &query, room: 5 + 5 + 4 * length });
     }
 }
@@ -88,7 +90,7 @@ fn rings(comparison: &mut Comparison, random: &mut Random) {
     if image.map.is_empty() {
         return;
     }
-    let length = random.pick(&[1, 1, 2, 2, 3, 5, 64, 65, 66]);
+    let length = random.pick(&[1, 1, 2, 2, 3, 5, KEY_LABELS, KEY_LABELS + 1, KEY_LABELS + 2]);
     add_ring(random, &mut image, length);
     look_at(comparison, random, &image, &keys);
 }

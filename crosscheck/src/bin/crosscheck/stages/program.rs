@@ -4,8 +4,9 @@ use super::bad_lists::random_faults;
 use crate::call::Call;
 use crate::comparison::Comparison;
 use crate::keysets::{self, one_label_each, EDGE_LABELS, NO_SCALARS};
+use crosscheck::common::KEY_LABELS;
 use crosscheck::keylist::{to_bytes, Key};
-use crosscheck::listing::INPUT_LEN;
+use crosscheck::listing::{INPUT_LEN, WORK_WORDS};
 use crosscheck::random::Random;
 
 pub fn run(comparison: &mut Comparison, random: &mut Random, amount: usize) {
@@ -27,17 +28,21 @@ pub fn run(comparison: &mut Comparison, random: &mut Random, amount: usize) {
 fn fixed_inputs(random: &mut Random) -> Vec<Vec<u8>> {
     let edges: Vec<Key> = EDGE_LABELS.iter().map(|label| vec![*label, 0, *label]).collect();
     let equal = vec![vec![1], vec![1]];
-    let long: Vec<Key> = (1..128).map(|label| vec![label; 64]).collect();
+    // The most keys at the limit for which there are slots, besides slots 0 and 1: one for each
+    // label and one for the end. With one key more no base fits.
+    let most = (WORK_WORDS / 2 - 2) / (KEY_LABELS + 1);
+    let long: Vec<Key> = (1..).take(most + 1).map(|label| vec![label; KEY_LABELS]).collect();
+    assert!(to_bytes(&long).len() <= INPUT_LEN);
     let wide = keysets::wide(random);
     let mut inputs: Vec<Vec<u8>> = vec![
         to_bytes(&edges),
         to_bytes(&equal),
-        to_bytes(&[vec![9; 64]]),
-        to_bytes(&[vec![9; 65]]),
+        to_bytes(&[vec![9; KEY_LABELS]]),
+        to_bytes(&[vec![9; KEY_LABELS + 1]]),
         to_bytes(&[vec![NO_SCALARS[0]]]),
         to_bytes(&wide),
-        // 126 keys of 64 labels need all 8,190 slots and too much output; for 127 no base fits.
-        to_bytes(&long[..126]),
+        // These have slots, but need too much output.
+        to_bytes(&long[..most]),
         to_bytes(&long),
         Vec::new(),
         vec![1, 0, 0, 0x80, 1],
@@ -56,7 +61,7 @@ fn fixed_inputs(random: &mut Random) -> Vec<Vec<u8>> {
 /// key has one byte and four for each label, so the remainder fixes their number.
 fn list_of_length(length: usize) -> Vec<u8> {
     let bytes = length - 5;
-    let fits = |count: &usize| bytes - count <= 4 * 62 * count;
+    let fits = |count: &usize| bytes - count <= 4 * (KEY_LABELS - 2) * count;
     let count = (bytes % 4..).step_by(4).find(fits).expect("more keys always fit");
     let labels = (bytes - count) / 4;
     let key = |at: usize| {

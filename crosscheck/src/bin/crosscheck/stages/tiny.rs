@@ -5,6 +5,7 @@ use crate::call::Call;
 use crate::comparison::Comparison;
 use crate::explore::{complete_at_every_size, search};
 use crate::keysets::all_strings;
+use crosscheck::answers::PLACE_WORDS;
 use crosscheck::builder::image_of;
 use crosscheck::common::query_of;
 use crosscheck::image::{CodeMap, Image, Lists, Node, TOP_BIT};
@@ -30,7 +31,7 @@ fn every_byte_changed(comparison: &mut Comparison, image: &[u8]) {
             changed[at] = value;
             comparison.image(&changed);
             if value % 32 == 0 || value == image[at] ^ 1 || value == 255 {
-                search(comparison, &changed, &query, 130);
+                search(comparison, &changed, &query, PLACE_WORDS);
                 comparison.call(Call::Complete { image: &changed, prefix: &query[..4], room: 60 });
                 comparison.call(Call::Complete { image: &changed, prefix: &query[..3], room: 4 });
             }
@@ -56,7 +57,7 @@ fn every_length(comparison: &mut Comparison, image: &[u8]) {
     for length in 0..=image.len() {
         let image = &image[..length];
         comparison.image(image);
-        search(comparison, image, &query_of(&[0x6E, 0x61]), 130);
+        search(comparison, image, &query_of(&[0x6E, 0x61]), PLACE_WORDS);
         comparison.call(Call::Complete { image, prefix: &[], room: 60 });
     }
 }
@@ -109,7 +110,7 @@ fn short_key_sets(comparison: &mut Comparison) {
         let image = image_of(Rules::DOCUMENT, &list, 400).expect("short keys build").to_bytes();
         comparison.image(&image);
         for query in queries.iter().map(|labels| query_of(labels)) {
-            search(comparison, &image, &query, 130);
+            search(comparison, &image, &query, PLACE_WORDS);
         }
         complete_at_every_size(comparison, &image, &[]);
     }

@@ -7,7 +7,7 @@ use crate::comparison::Comparison;
 use crate::explore::{any_places, search};
 use crate::keysets::NO_SCALARS;
 use crate::queries::{any_query, walk};
-use crosscheck::common::query_of;
+use crosscheck::common::{query_of, KEY_LABELS};
 use crosscheck::image::{CodeMap, Image, Lists, Node, TOP_BIT};
 use crosscheck::random::Random;
 use crosscheck::rules::Rules;
@@ -34,7 +34,8 @@ pub fn run(comparison: &mut Comparison, random: &mut Random, amount: usize) {
 
 /// A walk whose length is near the limits of a query.
 fn long_walk(random: &mut Random, image: &Image) -> Vec<u32> {
-    let length = random.pick(&[62, 63, 64, 65, 66, 200]);
+    let lengths: Vec<usize> = (KEY_LABELS - 2..=KEY_LABELS + 2).chain([200]).collect();
+    let length = random.pick(&lengths);
     walk(random, image, length)
 }
 
