@@ -56,6 +56,15 @@ module _ (w : List ℕ) where
       go ih false f (inl q) = absurd (true≢false (sym e ∙ ap (isTakenFrom2 w) q ∙ f))
       go ih false f (inr l) = omega (arith, used-miss n f, ih l e)
 
+  -- the last of them is taken, if it is not slot 1
+  pub used-last : (n s : ℕ) → slotsUsed w n ≡ suc s → 2 ≤ s → (s < n) × (isTakenFrom2 w s ≡ true)
+  used-last zero s e h = unfold slotsUsed in absurd (omega (arith, e))
+  used-last (suc n) s e h = go (used-last n s) (isTakenFrom2 w n) refl
+    where
+      go : (slotsUsed w n ≡ suc s → 2 ≤ s → (s < n) × (isTakenFrom2 w s ≡ true)) → (a : Bool) → isTakenFrom2 w n ≡ a → (s < suc n) × (isTakenFrom2 w s ≡ true)
+      go ih true f = let q : s ≡ n = omega (arith, e, used-hit n f) in (omega arith, ap (isTakenFrom2 w) q ∙ f)
+      go ih false f = let r = ih (sym (used-miss n f) ∙ e) h in (omega (arith, r .0), r .1)
+
   taken-most : (n : ℕ) → countBelow (suc (suc n)) (isTakenFrom2 w) ≤ n
   unfolding countBelow isTakenFrom2
   taken-most zero = omega arith

@@ -1,20 +1,21 @@
 -- Demand 2 for the builder: from a sorted key list the image built is the one the first-fit rule gives, and it reads back as
--- those keys, numbered from 0. Only the statements; the proofs are in Laws/Builder.antt and Laws/Placings.antt.
-use Prim.Native.Nat.{ℕ, zero, suc, _*_, _^_, _≤_, _<_}
+-- those keys, numbered from 0. Only the statements, of any program; that the definitions meet them is `demand2-builder` in
+-- Laws/Builder.antt.
+use Prim.Native.Nat.{ℕ, zero, suc, _≤_, _<_}
 use mathlib.Core.Path.{_≡_}
 use mathlib.Core.Logic.{_↔_, _⊎_, _≢_}
 use mathlib.Core.List.{List, [], _∷_, _++_, List·Memᴰ}
-use mathlib.Core.Option.{some, none}
+use mathlib.Core.Option.{some}
 use mathlib.Core.Bool.{false}
-use lib.ListN.{length, take, drop, replicate}
+use lib.ListN.{length, drop, replicate}
 use Rattle.lxtr_spec.specs.Numbers.{beWords}
-use Rattle.lxtr_spec.specs.Labels.{lengthCount, maxSlots, labelsOf, Pair}
+use Rattle.lxtr_spec.specs.Labels.{lengthCount, maxListed, labelsOf, Pair}
 use Rattle.lxtr_spec.specs.Joining.{slotUnder}
 use Rattle.lxtr_spec.specs.Completions.{listingOf, roomFor}
-use Rattle.lxtr_spec.specs.KeyLists.{keyCount, pairsOf}
+use Rattle.lxtr_spec.specs.KeyLists.{keyCount, pairsOf, listRefusal}
 use Rattle.lxtr_spec.specs.CodeMaps.{frequency, mapOf, codeIn, labelWith}
-use Rattle.lxtr_spec.specs.Placing.{baseAt, checkAt, baseCount, firstFit, childCodes, below, endValue, putChildren, putParent, place}
-use Rattle.lxtr_spec.specs.Builds.{slotsUsed, imageIn, slotsIn, buildOf}
+use Rattle.lxtr_spec.specs.Placing.{checkAt, baseCount, childCodes, below, endValue, putChildren, putParent}
+use Rattle.lxtr_spec.specs.Builds.{imageIn, slotsIn, workAfter}
 use Rattle.lxtr_spec.specs.Sets.{PairSet, Has, ImageOf}
 use Rattle.lxtr_spec.specs.Meaning.{Ordered, Lists}
 use Rattle.lxtr_demands.specs.Operations.{Operations}
@@ -79,48 +80,48 @@ pub record ByFrequency (ps : List Pair) (labels : List ℕ) : Type 0 where
   pub used : (x : ℕ) → List·Memᴰ x labels ↔ ((p : Pair) × List·Memᴰ p ps × List·Memᴰ x (p .0))
   pub ordered : Ordered (FrequencyBefore ps) labels
 
+-- N is the highest taken slot plus 1. (Slots 0 and 1 are taken.)
+pub record HighestTaken (S : ℕ) (w : List ℕ) (N : ℕ) : Type 0 where
+  pub from : 2 ≤ N
+  pub last : (s : ℕ) → N ≡ suc s → 2 ≤ s → (s < S) × (checkAt w s ≢ 0)
+  pub none-above : (s : ℕ) → N ≤ s → s < S → checkAt w s ≡ 0
+
 -- the image of the key list, with W words of work: its code map goes by frequency, and its slots are placed by first fit
 pub record FirstFitImage (keys : List ℕ) (W : ℕ) (image : List ℕ) : Type 0 where
   pub labels : List ℕ
   pub by-frequency : ByFrequency (pairsOf keys) labels
   pub work : List ℕ
   pub placed : PlacedByFit (slotsIn W) (codeIn labels) (labelWith labels) lengthCount 1 (pairsOf keys) (replicate W 0) work
-  pub is : image ≡ imageIn work (slotsUsed work (slotsIn W)) labels
+  pub slots : ℕ
+  pub highest : HighestTaken (slotsIn W) work slots
+  pub is : image ≡ imageIn work slots labels
 
--- ---- the demand, of any program
+-- This image can be built: W is not below 4 (21), nothing is wrong with the key list (15 to 19), it has not more than 4,095 distinct
+-- labels (20), at each slot some base fits (22), and the output is not shorter than the image (23).
+pub record Buildable (keys work out image : List ℕ) : Type 0 where
+  pub words : 4 ≤ length work
+  pub list-right : listRefusal keys ≡ 0
+  pub by-first-fit : FirstFitImage keys (length work) image
+  pub few-labels : length (by-first-fit .labels) ≤ maxListed
+  pub room : length image ≤ length out
+
+-- ---- the demand
 
 pub record Demand2Builder (o : Operations) : Type 0 where
-  -- It refuses exactly what document 01 refuses, so all else is built.
-  pub refuses : (keys work out : List ℕ) → o .build keys work out .answer .refusal ≡ buildOf keys work out .answer .refusal
-  -- What is built, the bytes at the front of the output, is the image that the first-fit rule gives. There is one such image.
-  pub first-fit : (keys work out : List ℕ) → o .build keys work out .answer .refusal ≡ 0
-      → FirstFitImage keys (length work) (take (o .build keys work out .answer .length) (o .build keys work out .output))
-  pub one-image : (keys : List ℕ) (W : ℕ) (image other : List ℕ) → FirstFitImage keys W image → FirstFitImage keys W other → image ≡ other
+  -- It refuses nothing exactly when some image can be built.
+  pub builds : (keys work out : List ℕ) → (o .build keys work out .answer .refusal ≡ 0) ↔ ((image : List ℕ) × Buildable keys work out image)
+  -- There is one such image.
+  pub one-image : (keys work out image other : List ℕ) → Buildable keys work out image → Buildable keys work out other → image ≡ other
+  -- Success writes the image at the front; the rest of the output stays. Work words are zero afterwards.
+  pub built : (keys work out image : List ℕ) → Buildable keys work out image
+      → o .build keys work out ≡ record { answer = record { refusal = 0; length = length image }; output = image ++ drop (length image) out; work = replicate (length work) 0 }
   -- It reads back.
-  pub reads-back : (keys work out : List ℕ) → o .build keys work out .answer .refusal ≡ 0
-      → ReadsBack o keys (take (o .build keys work out .answer .length) (o .build keys work out .output))
+  pub reads-back : (keys work out image : List ℕ) → Buildable keys work out image → ReadsBack o keys image
+  -- A refusal answers length 0 and leaves the output untouched. Work words are zero afterwards, except after 21, which leaves them.
+  pub refused : (keys work out : List ℕ) → o .build keys work out .answer .refusal ≢ 0
+      → o .build keys work out ≡ record { answer = record { refusal = o .build keys work out .answer .refusal; length = 0 }; output = out; work = workAfter work }
 
--- ---- what the definitions find
-
--- What holds when placing is called for slot p: p is one of the S slots that the work w has room for, it is slot 1 or has a parent,
--- and its HAS_LEAF is not set yet.
-pub record MayBePlaced (S : ℕ) (w : List ℕ) (p : ℕ) : Type 0 where
-  pub room : 2 * S ≤ length w
-  pub slots : S ≤ maxSlots
-  pub slot : (1 ≤ p) × (p < S)
-  pub taken : (p ≡ 1) ⊎ (checkAt w p ≢ 0)
-  pub no-flag : checkAt w p < 2 ^ 31
-
-pub record FirstFit : Type 0 where
-  -- Each base is the smallest that fits: placing slot p, whose group is g, leaves it with the smallest base that fitted its
-  -- children in the work w before. (Placing calls itself for the slots below p, so this holds of each slot.)
-  pub placed : (S : ℕ) (code label : ℕ → ℕ) (k p : ℕ) (g : List Pair) (w u : List ℕ) → MayBePlaced S w p
-      → place S code label (suc k) p g w ≡ some u → SmallestFit S w (childCodes code g []) (baseAt u p)
-  -- That is what firstFit finds, and it finds none only if none fits.
-  pub found : (S : ℕ) (w cs : List ℕ) (b : ℕ) → firstFit S w cs ≡ some b → SmallestFit S w cs b
-  pub none-fits : (S : ℕ) (w cs : List ℕ) (b : ℕ) → firstFit S w cs ≡ none → Fits S w cs b → ⊥
-  -- There is one such base.
-  pub one-fit : (S : ℕ) (w cs : List ℕ) (a b : ℕ) → SmallestFit S w cs a → SmallestFit S w cs b → a ≡ b
+-- ---- the code map of the definitions
 
 pub record CodesByFrequency : Type 0 where
   -- The code map lists these.

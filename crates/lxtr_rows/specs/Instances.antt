@@ -1,21 +1,22 @@
 -- What the demands rule out, for every possible program. In each module, o is any program that meets the demand, whatever else it
--- does: over an image it answers what the definitions answer. So the programs that document 01 names under "What the promises rule
--- out" fail. Then what is ruled out for code maps and for places of faults.
-use Prim.Native.Nat.{ℕ, zero, suc, _%_, _≤_, _<_}
+-- does: over an image it answers what the definitions answer, and it builds what they build. So the programs that document 01 names
+-- under "What the promises rule out" fail. Then what is ruled out for code maps and for places of faults.
+use Prim.Native.Nat.{ℕ, _%_, _≤_, _<_}
 use native.Mathlib.Omega.{arith}
 use mathlib.Core.Path.{_≡_, refl, sym, ap, _∙_, subst}
 use mathlib.Core.Logic.{_≢_, _↔_, inr}
 use mathlib.Core.List.{List, [], _∷_, _++_, List·Memᴰ, List·Memᴰ·head, append-nil}
 use mathlib.Core.Option.{Option, some, none}
 use mathlib.Core.Bool.{Bool, true, false, true≢false}
-use lib.ListN.{length, take, getD, replicate}
+use lib.ListN.{length, take, drop, getD, replicate}
+use lib.Seq.{take-append-seam}
 use Rattle.lxtr_spec.specs.Labels.{labelsOf, Pair}
 use Rattle.lxtr_spec.specs.Image.{magic, slotCount, parent}
 use Rattle.lxtr_spec.specs.Refusals.{usedCount, checkOf}
 use Rattle.lxtr_spec.specs.Searches.{ExactAnswer, LongestAnswer, ProbeAnswer, exactOf, prefixesOf, longestOf, probeOf}
 use Rattle.lxtr_spec.specs.Completions.{CompletionAnswer, completionOf}
 use Rattle.lxtr_spec.specs.KeyLists.{pairsOf}
-use Rattle.lxtr_spec.specs.Builds.{buildOf}
+use Rattle.lxtr_spec.specs.Builds.{BuildAnswer, buildOf}
 use Rattle.lxtr_spec.specs.CodeMaps.{mapOf}
 use Rattle.lxtr_spec.specs.FaultPlaces.{faultOf}
 use Rattle.lxtr_spec.specs.Sets.{PairSet, Prefix, Has, ImageOf}
@@ -100,8 +101,8 @@ module _ (o : Operations) (meets : (b : List ℕ) → Demand3 o b) where
   pub accepts-all-fails : ((b : List ℕ) → o .check b .refusal ≡ 0) → ⊥
   accepts-all-fails accepts = accepted-other-fails p10 p10-is-none (accepts p10)
 
-  -- A made-up pair count fails: any number that is not that of the set's pairs, or is not 0 beside a refusal. So does the same
-  -- number for every image, and the number of used slots from 2 up.
+  -- A made-up pair count fails: any number that is not that of the set's pairs or, with a refusal, is not 0. So does the same number
+  -- for every image, and the number of used slots from 2 up.
   pub made-up-count-fails : (b : List ℕ) (d : PairSet) (ps : List Pair) → ImageOf b d → Lists b d [] ps → o .check b .pairs ≢ length ps → ⊥
   made-up-count-fails b d ps image are other = other (ap (λ (v : Verdict). v .pairs) (meets b .answer d ps image are))
 
@@ -259,11 +260,10 @@ module _ (o : Operations) (meets : Demand2 o) where
 
 -- ---- demand 2: the builder
 
--- if bytes do not begin with `L`, no front part of them does
-other-front : (m : ℕ) (out : List ℕ) → getD out 0 0 ≢ 0x4C → getD (take m out) 0 0 ≢ 0x4C
-other-front zero out other e = omega arith
-other-front (suc m) [] other e = omega arith
-other-front (suc m) (x ∷ out) other e = other e
+-- what begins with an image begins with `L`
+begins-with : (image rest : List ℕ) → getD image 0 0 ≡ 0x4C → getD (image ++ rest) 0 0 ≡ 0x4C
+begins-with [] rest e = absurd (omega arith)
+begins-with (x ∷ image) rest e = e
 
 -- P3's keys, in work and output of just the size that they need
 abbrev keys3 : List ℕ
@@ -277,37 +277,47 @@ unfolding computing
 builds3 = (refl, refl)
 
 module _ (o : Operations) (meets : Demand2Builder o) where
-  abbrev writes : List ℕ → List ℕ → List ℕ → List ℕ
-  writes keys work out = take (o .build keys work out .answer .length) (o .build keys work out .output)
+  -- What the definitions build, it builds, with the same answer, output and work. What they refuse, it refuses.
+  pub only-build : (keys work out : List ℕ) → buildOf keys work out .answer .refusal ≡ 0 → o .build keys work out ≡ buildOf keys work out
+  only-build keys work out e =
+      let (image, can) = demand2-builder .builds keys work out .0 e in
+      meets .built keys work out image can ∙ sym (demand2-builder .built keys work out image can)
 
-  -- No other image than that of the definitions meets the demand.
-  pub only-build : (keys work out : List ℕ) → o .build keys work out .answer .refusal ≡ 0
-      → writes keys work out ≡ take (buildOf keys work out .answer .length) (buildOf keys work out .output)
-  only-build keys work out e = meets .one-image keys (length work) _ _ (meets .first-fit keys work out e) (demand2-builder .first-fit keys work out (sym (meets .refuses keys work out) ∙ e))
+  pub only-refuse : (keys work out : List ℕ) → buildOf keys work out .answer .refusal ≢ 0 → o .build keys work out .answer .refusal ≢ 0
+  only-refuse keys work out refuses e = refuses (demand2-builder .builds keys work out .1 (meets .builds keys work out .0 e))
 
-  -- If nothing is refused, something is written: an output that does not begin with `L` is not an image as it is.
+  -- If nothing is refused, something is written: the output begins with `L`, as an image does.
   pub unwritten-fails : (keys work out : List ℕ) → getD out 0 0 ≢ 0x4C → o .build keys work out .answer .refusal ≡ 0 → o .build keys work out .output ≡ out → ⊥
   unfolding magic
   unwritten-fails keys work out other e idle =
-      let begins = meets .reads-back keys work out e .image-of .framed .magic-bytes 0 (omega arith) in
-      other-front (o .build keys work out .answer .length) out other (subst (λ (l : List ℕ). getD (take (o .build keys work out .answer .length) l) 0 0 ≡ 0x4C) idle begins)
+      let (image, can) = meets .builds keys work out .0 e in
+      let begins : getD image 0 0 ≡ 0x4C = meets .reads-back keys work out image can .image-of .framed .magic-bytes 0 (omega arith) in
+      let written : o .build keys work out .output ≡ image ++ drop (length image) out = ap (λ (a : BuildAnswer). a .output) (meets .built keys work out image can) in
+      other (ap (λ (l : List ℕ). getD l 0 0) (sym idle ∙ written) ∙ begins-with image (drop (length image) out) begins)
+
+  -- the bytes at the front of the output, of the length that is answered
+  abbrev writes : List ℕ → List ℕ → List ℕ → List ℕ
+  writes keys work out = take (o .build keys work out .answer .length) (o .build keys work out .output)
 
   -- If a key has a label, some slot has a parent other than slot 1: the key's end, for one.
   pub one-level-fails : (keys work out k : List ℕ) (x v : ℕ) → List·Memᴰ (k ++ x ∷ [], v) (pairsOf keys) → o .build keys work out .answer .refusal ≡ 0
       → ((s : ℕ) → 2 ≤ s → s < slotCount (writes keys work out) → parent (writes keys work out) s ≤ 1) → ⊥
   one-level-fails keys work out k x v m e low =
-      let back = meets .reads-back keys work out e in
+      let (image, can) = meets .builds keys work out .0 e in
+      let is : writes keys work out ≡ image = ap (λ (a : BuildAnswer). take (a .answer .length) (a .output)) (meets .built keys work out image can) ∙ take-append-seam image (drop (length image) out) in
+      let back = meets .reads-back keys work out image can in
       let placed = back .image-of .placed in
       let key = k ++ x ∷ [] in
       let has : Has (back .pair-set) key v = back .pair-set-is .each key v m in
       let is-prefix : Prefix (back .pair-set) key = record { is = inr ([], v, subst (λ (l : List ℕ). Has (back .pair-set) l v) (sym (append-nil key)) has) } in
       let end = placed .end-in key v has in
-      omega (arith, low (back .image-of .end key) (end .0) (end .1), placed .end-parent key v has, placed .slot-in k x is-prefix .0)
+      let low-image : (s : ℕ) → 2 ≤ s → s < slotCount image → parent image s ≤ 1 = subst (λ (l : List ℕ). (s : ℕ) → 2 ≤ s → s < slotCount l → parent l s ≤ 1) is low in
+      omega (arith, low-image (back .image-of .end key) (end .0) (end .1), placed .end-parent key v has, placed .slot-in k x is-prefix .0)
 
   -- So a builder that refuses all fails, on P3's keys, and so does one that writes nothing, and one that places slot 1's children
   -- and no more.
   builds : o .build keys3 (blank 14) (blank 141) .answer .refusal ≡ 0
-  builds = meets .refuses keys3 (blank 14) (blank 141) ∙ builds3 .0
+  builds = ap (λ (a : BuildAnswer). a .answer .refusal) (only-build keys3 (blank 14) (blank 141) (builds3 .0)) ∙ builds3 .0
 
   pub refusing-builder-fails : ((keys work out : List ℕ) → o .build keys work out .answer .refusal ≢ 0) → ⊥
   refusing-builder-fails refuses = refuses keys3 (blank 14) (blank 141) builds

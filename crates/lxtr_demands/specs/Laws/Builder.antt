@@ -1,22 +1,21 @@
 -- Demand 2 for the builder, from its parts: what is built is placed by first fit, it is an image of the set of the key list's
 -- pairs, and over an image the searches, the check and completion answer what its set says.
-use Prim.Native.Nat.{ℕ, _*_, zero, suc, _%_, _^_, _<_}
+use Prim.Native.Nat.{ℕ, _*_, zero, suc, _%_, _^_, _<_, _≤_}
 use native.Mathlib.Omega.{arith}
-use mathlib.Core.Path.{_≡_, refl, sym, ap, _∙_, subst}
-use mathlib.Core.Logic.{_≢_, ⊎-elim}
-use mathlib.Core.List.{List, [], _∷_, append-nil, List·Memᴰ}
+use mathlib.Core.Path.{_≡_, refl, sym, ap, ap₂, _∙_, subst}
+use mathlib.Core.Logic.{_≢_}
+use mathlib.Core.List.{List, [], _∷_, _++_, append-nil, List·Memᴰ}
 use mathlib.Core.Option.{some, none}
-use mathlib.Core.Bool.{true, true≢false}
-use lib.ListN.{getD, length, take, replicate}
+use mathlib.Core.Bool.{true}
+use lib.ListN.{getD, length, drop, replicate}
 use lib.Seq.{ext-getD}
 use Rattle.lxtr_spec.specs.Numbers.{be32, beWords}
-use Rattle.lxtr_spec.specs.Labels.{lengthCount, labelsOf, comesBefore, Pair}
+use Rattle.lxtr_spec.specs.Labels.{lengthCount, maxListed, labelsOf, comesBefore, Pair}
 use Rattle.lxtr_spec.specs.Refusals.{unlessRefused, endCount, checkOf}
 use Rattle.lxtr_spec.specs.Searches.{searchRefusal, exactValue, exactOf}
 use Rattle.lxtr_spec.specs.KeyLists.{keysAt, keyCount, pairsOf}
-use Rattle.lxtr_spec.specs.Placing.{baseAt, childCodes}
 use Rattle.lxtr_spec.specs.CodeMaps.{frequency, mapOf, codeIn, labelWith}
-use Rattle.lxtr_spec.specs.Builds.{slotsUsed, imageIn, slotsIn, placedIn, buildOf}
+use Rattle.lxtr_spec.specs.Builds.{imageIn, slotsUsed, slotsIn, placedIn, BuildAnswer, buildOf}
 use Rattle.lxtr_spec.specs.Sets.{PairSet, Has, ImageOf}
 use Rattle.lxtr_spec.specs.Meaning.{Ordered, Lists}
 use Rattle.lxtr_laws.specs.Members.{member-at}
@@ -29,19 +28,16 @@ use Rattle.lxtr_build_laws.specs.KeyListFacts.{Ascending, KeysRight}
 use Rattle.lxtr_build_laws.specs.KeyReading.{keys-length}
 use Rattle.lxtr_build_laws.specs.Passing.{list-passed}
 use Rattle.lxtr_build_laws.specs.Maps.{Before, before-is, is-before, before-trans, before-apart, map-members, map-ordered}
-use Rattle.lxtr_build_laws.specs.FirstFit.{first-fit-some, first-fit-none}
-use Rattle.lxtr_build_laws.specs.Nodes.{Plain}
-use Rattle.lxtr_build_laws.specs.Trees.{placed-slot, placed-node}
 use Rattle.lxtr_build_laws.specs.PairSets.{setOf, set-members}
-use Rattle.lxtr_build_laws.specs.Outcomes.{image-built}
+use Rattle.lxtr_build_laws.specs.Outcomes.{BuildSteps, steps-answer, answer-steps, steps-one, refusal-alone}
 use Rattle.lxtr_demands.specs.Operations.{defined}
-use Rattle.lxtr_demands.specs.Builder.{ReadsBack, SmallestFit, PlacedByFit, MayBePlaced, FirstFit, FrequencyBefore, ByFrequency, CodesByFrequency, FirstFitImage, Demand2Builder}
+use Rattle.lxtr_demands.specs.Builder.{ReadsBack, PlacedByFit, FrequencyBefore, ByFrequency, CodesByFrequency, Buildable, Demand2Builder}
 use Rattle.lxtr_demands.specs.Laws.Images.{image-passes, known-image}
 use Rattle.lxtr_demands.specs.Laws.Counts.{pairs-counted, listing-counted}
 use Rattle.lxtr_demands.specs.Laws.Demand3.{demand3}
 use Rattle.lxtr_demands.specs.Laws.Demand2.{exact-set, demand2}
 use Rattle.lxtr_laws.specs.ReadBack.{be-words}
-use Rattle.lxtr_demands.specs.Laws.Placings.{of-fits, smallest-fit, one-fit, placed-by-fit, one-placed}
+use Rattle.lxtr_demands.specs.Laws.Placings.{placed-by-fit, fit-placed, used-highest, one-highest}
 use Rattle.lxtr_demands.specs.Laws.BuiltImages.{scalar-small, image-of-work}
 
 -- a query written for these labels has these labels
@@ -112,25 +108,6 @@ module _ (keys image : List ℕ) (right : KeysRight (pairsOf keys)) (image-of : 
     completion = λ rs room l h. demand3 image .completion d rs room image-of l h ∙ rw (listing-count rs l);
   }
 
--- ---- first fit
-
-plain-of : (S : ℕ) (w : List ℕ) (p : ℕ) → MayBePlaced S w p → Plain S w p
-plain-of S w p m = record {
-  ready = record { room = m .room; slots = m .slots; from = m .slot .0; to = m .slot .1; taken = λ f. ⊎-elim (λ e. omega (arith, f .from, e)) (λ n. n (f .zero-check)) (m .taken) };
-  plain = m .no-flag;
-}
-
-pub first-fit : FirstFit
-first-fit = record {
-  placed = λ S code label k p g w u m e.
-      let n = placed-slot S code label k p g w u e in
-      let base : baseAt u p ≡ n .base = placed-node S code label k p g w u (plain-of S w p m) n .base-is in
-      subst (SmallestFit S w (childCodes code g [])) (sym base) (smallest-fit S w (childCodes code g []) (n .base) (n .settled .small) (n .settled .smallest));
-  found = λ S w cs b e. let r = first-fit-some S w cs b e in smallest-fit S w cs b (r .1) (r .0);
-  none-fits = λ S w cs b e f. true≢false (sym (of-fits S w cs b f) ∙ first-fit-none S w cs e b (f .base-in));
-  one-fit = one-fit;
-}
-
 -- ---- the code map
 
 pub codes-by-frequency : CodesByFrequency
@@ -145,43 +122,69 @@ codes-by-frequency = record {
 
 -- ---- the demand
 
--- two first-fit images of a key list have the same code map, and so the same work
-one-image : (keys : List ℕ) (W : ℕ) (image other : List ℕ) → FirstFitImage keys W image → FirstFitImage keys W other → image ≡ other
-one-image keys W image other f h = go (h .labels) (codes-by-frequency .one-map (pairsOf keys) (f .labels) (h .labels) (f .by-frequency) (h .by-frequency)) (h .work) (h .placed) (h .is)
-  where
-    S : ℕ
-    S = slotsIn W
+module _ (keys work out image : List ℕ) where
+  abbrev W : ℕ
+  W = length work
 
-    go : (labels : List ℕ) → f .labels ≡ labels → (work : List ℕ) → PlacedByFit S (codeIn labels) (labelWith labels) lengthCount 1 (pairsOf keys) (replicate W 0) work
-        → other ≡ imageIn work (slotsUsed work S) labels → image ≡ other
-    go labels e work p is =
-        let p′ : PlacedByFit S (codeIn (f .labels)) (labelWith (f .labels)) lengthCount 1 (pairsOf keys) (replicate W 0) work =
-        subst (λ (l : List ℕ). PlacedByFit S (codeIn l) (labelWith l) lengthCount 1 (pairsOf keys) (replicate W 0) work) (sym e) p in
-        let same = one-placed S (codeIn (f .labels)) (labelWith (f .labels)) lengthCount 1 (pairsOf keys) (replicate W 0) (f .work) work (f .placed) p′ in
-        f .is ∙ rw (e, same) (sym is)
+  abbrev map : List ℕ
+  map = mapOf (pairsOf keys)
 
-module _ (keys work out : List ℕ) (e : buildOf keys work out .answer .refusal ≡ 0) where
-  abbrev image : List ℕ
-  image = take (buildOf keys work out .answer .length) (buildOf keys work out .output)
+  abbrev PlacedWith : List ℕ → List ℕ → Type 0
+  PlacedWith labels w = PlacedByFit (slotsIn W) (codeIn labels) (labelWith labels) lengthCount 1 (pairsOf keys) (replicate W 0) w
 
-  built-by-fit : FirstFitImage keys (length work) image
+  -- the steps of the definitions are those of the statement
+  steps-buildable : BuildSteps W (length out) keys image → Buildable keys work out image
   unfolding placedIn
-  built-by-fit =
-      let b = image-built keys work out e in
-      let labels : List ℕ = mapOf (pairsOf keys) in
+  steps-buildable b = record {
+    words = b .words;
+    list-right = b .right;
+    by-first-fit = record {
+      labels = map;
+      by-frequency = codes-by-frequency .listed (pairsOf keys);
+      work = b .work;
+      placed = placed-by-fit (slotsIn W) (codeIn map) (labelWith map) lengthCount 1 (pairsOf keys) (replicate W 0) (b .work) (b .placed);
+      slots = slotsUsed (b .work) (slotsIn W);
+      highest = used-highest (slotsIn W) (b .work);
+      is = b .is;
+    };
+    few-labels = b .few;
+    room = b .room;
+  }
+
+  buildable-steps : Buildable keys work out image → BuildSteps W (length out) keys image
+  unfolding placedIn
+  buildable-steps b =
+      let f = b .by-first-fit in
+      let same-labels : f .labels ≡ map = codes-by-frequency .one-map (pairsOf keys) (f .labels) map (f .by-frequency) (codes-by-frequency .listed (pairsOf keys)) in
+      let same-slots : f .slots ≡ slotsUsed (f .work) (slotsIn W) = one-highest (slotsIn W) (f .work) (f .slots) (slotsUsed (f .work) (slotsIn W)) (f .highest) (used-highest (slotsIn W) (f .work)) in
       record {
-        labels = labels;
-        by-frequency = codes-by-frequency .listed (pairsOf keys);
-        work = b .work;
-        placed = placed-by-fit (slotsIn (length work)) (codeIn labels) (labelWith labels) lengthCount 1 (pairsOf keys) (replicate (length work) 0) (b .work) (b .placed);
-        is = b .is;
+        words = b .words;
+        right = b .list-right;
+        few = subst (λ (l : List ℕ). length l ≤ maxListed) same-labels (b .few-labels);
+        work = f .work;
+        placed = fit-placed (slotsIn W) (codeIn map) (labelWith map) lengthCount 1 (pairsOf keys) (replicate W 0) (f .work) (subst (λ (l : List ℕ). PlacedWith l (f .work)) same-labels (f .placed));
+        is = f .is ∙ ap₂ (imageIn (f .work)) same-slots same-labels;
+        room = b .room;
       }
 
-  built-reads-back : ReadsBack defined keys image
-  built-reads-back =
-      let b = image-built keys work out e in
-      let right : KeysRight (pairsOf keys) = list-passed keys (b .right) .right in
-      reads-back keys image right (subst (λ (i : List ℕ). ImageOf i (setOf (pairsOf keys))) (sym (b .is)) (image-of-work (length work) (pairsOf keys) (b .work) (b .words) right (b .few) (b .placed)))
+  built : Buildable keys work out image
+      → buildOf keys work out ≡ record { answer = record { refusal = 0; length = length image }; output = image ++ drop (length image) out; work = replicate W 0 }
+  built b = steps-answer keys work out image (buildable-steps b)
+
+  built-reads-back : Buildable keys work out image → ReadsBack defined keys image
+  built-reads-back b =
+      let n = buildable-steps b in
+      let right : KeysRight (pairsOf keys) = list-passed keys (n .right) .right in
+      reads-back keys image right (subst (λ (i : List ℕ). ImageOf i (setOf (pairsOf keys))) (sym (n .is)) (image-of-work W (pairsOf keys) (n .work) (n .words) right (n .few) (n .placed)))
 
 pub demand2-builder : Demand2Builder defined
-demand2-builder = record { refuses = λ keys work out. refl; first-fit = built-by-fit; one-image = one-image; reads-back = built-reads-back }
+demand2-builder = record {
+  builds = λ keys work out. (
+    λ e. let (image, b) = answer-steps keys work out e in (image, steps-buildable keys work out image b),
+    λ (image, b). ap (λ (a : BuildAnswer). a .answer .refusal) (built keys work out image b),
+  );
+  one-image = λ keys work out image other b c. steps-one keys work out image other (buildable-steps keys work out image b) (buildable-steps keys work out other c);
+  built = built;
+  reads-back = built-reads-back;
+  refused = refusal-alone;
+}

@@ -1,23 +1,26 @@
--- What placing leaves is the work that first fit gives, and there is one such work.
+-- Placing leaves exactly the work that first fit gives, and the search for the highest taken slot finds it.
 -- By the labels still allowed, and along the codes of a slot's children.
 use Prim.Native.Nat.{ℕ, zero, suc, _≤_, _<_}
 use native.Mathlib.Omega.{arith}
-use mathlib.Core.Path.{_≡_, refl, sym, _∙_, subst}
+use native.Mathlib.Decide.{ℕ-discrete}
+use mathlib.Core.Path.{_≡_, refl, sym, ap, _∙_, subst}
 use mathlib.Core.List.{List, [], _∷_, List·Memᴰ·head, List·Memᴰ·tail}
 use mathlib.Core.Option.{Option, some, none}
 use mathlib.Core.Bool.{true, true≢false}
 use Rattle.lxtr_spec.specs.Labels.{Pair}
 use Rattle.lxtr_spec.specs.Joining.{slotUnder}
-use Rattle.lxtr_spec.specs.Placing.{baseCount, isFree, fits, childCodes, below, endValue, putChildren, putParent, intoEach, place}
+use Rattle.lxtr_spec.specs.Placing.{checkAt, baseCount, isFree, fits, firstFit, childCodes, below, endValue, putChildren, putParent, settle, intoEach, place}
+use Rattle.lxtr_spec.specs.Builds.{slotsUsed}
 use Rattle.lxtr_laws.specs.RangeTests.{tests}
-use Rattle.lxtr_build_laws.specs.FirstFit.{Smallest, fits-free}
+use Rattle.lxtr_build_laws.specs.FirstFit.{Smallest, first-fit-some, first-fit-none, fits-free}
 use Rattle.lxtr_build_laws.specs.Trees.{goInto, placed-slot}
-use Rattle.lxtr_demands.specs.Builder.{Fits, SmallestFit, InTurn, PlacedByFit}
+use Rattle.lxtr_build_laws.specs.UsedSlots.{taken-is, used-low, used-last, taken-used}
+use Rattle.lxtr_demands.specs.Builder.{Fits, SmallestFit, InTurn, PlacedByFit, HighestTaken}
 
 fits-of : (S : ℕ) (w cs : List ℕ) (b : ℕ) → b < baseCount → fits S w cs b ≡ true → Fits S w cs b
 fits-of S w cs b h e = let free = fits-free S w cs b e in record { base-in = h; slot-from = λ c m. free c m .0 .from; slot-to = λ c m. free c m .1; slot-free = λ c m. free c m .0 .zero-check }
 
-pub of-fits : (S : ℕ) (w cs : List ℕ) (b : ℕ) → Fits S w cs b → fits S w cs b ≡ true
+of-fits : (S : ℕ) (w cs : List ℕ) (b : ℕ) → Fits S w cs b → fits S w cs b ≡ true
 unfolding fits isFree
 of-fits S w [] b f = refl
 of-fits S w (c ∷ cs) b f = simp tests (
@@ -26,7 +29,7 @@ of-fits S w (c ∷ cs) b f = simp tests (
 )
 
 -- a base that fits, and no smaller one does
-pub smallest-fit : (S : ℕ) (w cs : List ℕ) (b : ℕ) → b < baseCount → Smallest S w cs 0 b → SmallestFit S w cs b
+smallest-fit : (S : ℕ) (w cs : List ℕ) (b : ℕ) → b < baseCount → Smallest S w cs 0 b → SmallestFit S w cs b
 smallest-fit S w cs b h s = record {
   fits = fits-of S w cs b h (s .fit);
   smallest = λ a f. not-below a (λ l. true≢false (sym (of-fits S w cs a f) ∙ s .none-before a (omega arith) l));
@@ -35,8 +38,18 @@ smallest-fit S w cs b h s = record {
     not-below : (a : ℕ) → (a < b → ⊥) → b ≤ a
     not-below a h = omega arith
 
-pub one-fit : (S : ℕ) (w cs : List ℕ) (a b : ℕ) → SmallestFit S w cs a → SmallestFit S w cs b → a ≡ b
+one-fit : (S : ℕ) (w cs : List ℕ) (a b : ℕ) → SmallestFit S w cs a → SmallestFit S w cs b → a ≡ b
 one-fit S w cs a b f g = omega (arith, f .smallest b (g .fits), g .smallest a (f .fits))
+
+-- first fit finds it
+smallest-found : (S : ℕ) (w cs : List ℕ) (b : ℕ) → SmallestFit S w cs b → firstFit S w cs ≡ some b
+smallest-found S w cs b f = go (firstFit S w cs) refl
+  where
+    go : (o : Option ℕ) → firstFit S w cs ≡ o → firstFit S w cs ≡ some b
+    go none e = absurd (true≢false (sym (of-fits S w cs b (f .fits)) ∙ first-fit-none S w cs e b (f .fits .base-in)))
+    go (some r) e =
+        let found = first-fit-some S w cs r e in
+        e ∙ ap some (one-fit S w cs r b (smallest-fit S w cs r (found .1) (found .0)) f)
 
 -- ---- going into the children
 
@@ -52,20 +65,17 @@ module _ (R : ℕ → List ℕ → List ℕ → Type 0) where
       go rest none h q = absurd (let o : _≡_ {A = ℕ} 0 1 = cc in omega arith)
       go rest (some v) h q = (v, leads (suc c) w v h, rest v q)
 
-  one-turn : ((c : ℕ) (w u v : List ℕ) → R c w u → R c w v → u ≡ v) → (cs w u v : List ℕ) → InTurn R cs w u → InTurn R cs w v → u ≡ v
-  unfolding InTurn
-  one-turn one [] w u v a b = sym a ∙ b
-  one-turn one (zero ∷ cs) w u v a b = one-turn one cs w u v a b
-  one-turn one (suc c ∷ cs) w u v (x, r, a) (y, s, b) = one-turn one cs x u v a (subst (λ (z : List ℕ). InTurn R cs z v) (one (suc c) w y x s r) b)
+  turn-in : (f : ℕ → List ℕ → Option (List ℕ)) → ((c : ℕ) (w u : List ℕ) → R c w u → f c w ≡ some u) → (cs w u : List ℕ) → InTurn R cs w u → intoEach f cs w ≡ some u
+  unfolding intoEach InTurn
+  turn-in f leads [] w u e = ap some e
+  turn-in f leads (zero ∷ cs) w u e = turn-in f leads cs w u e
+  turn-in f leads (suc c ∷ cs) w u (v, r, e) = ap (λ (o : Option (List ℕ)). elim o as (λ _. Option (List ℕ)) [ none ↦ none | some x ↦ intoEach f cs x ]) (leads (suc c) w v r) ∙ turn-in f leads cs v u e
 
 -- ---- placing
 
 module _ (S : ℕ) (code label : ℕ → ℕ) where
   abbrev into : ℕ → ℕ → List Pair → ℕ → List ℕ → List ℕ → Type 0
   into k b g c v x = PlacedByFit S code label k (slotUnder b c) (below (label c) g) v x
-
-  abbrev settled : ℕ → List Pair → ℕ → List ℕ → List ℕ
-  settled p g b w = putChildren p (endValue g) b (childCodes code g []) (putParent p b (childCodes code g []) w)
 
   pub placed-by-fit : (k p : ℕ) (g : List Pair) (w u : List ℕ) → place S code label k p g w ≡ some u → PlacedByFit S code label k p g w u
   unfolding place PlacedByFit
@@ -79,10 +89,37 @@ module _ (S : ℕ) (code label : ℕ → ℕ) where
         subst (λ (x : List ℕ). InTurn (into k (n .base) g) (childCodes code g []) x u) (n .settled .is) turns,
       )
 
-  pub one-placed : (k p : ℕ) (g : List Pair) (w u v : List ℕ) → PlacedByFit S code label k p g w u → PlacedByFit S code label k p g w v → u ≡ v
-  unfolding PlacedByFit
-  one-placed zero p g w u v a b = sym a ∙ b
-  one-placed (suc k) p g w u v (b, f, a) (c, h, d) =
-      let same : c ≡ b = one-fit S w (childCodes code g []) c b h f in
-      one-turn (into k b g) (λ e x y z. one-placed k (slotUnder b e) (below (label e) g) x y z) (childCodes code g []) (settled p g b w) u v a
-      (subst (λ (x : ℕ). InTurn (into k x g) (childCodes code g []) (settled p g x w) v) same d)
+  pub fit-placed : (k p : ℕ) (g : List Pair) (w u : List ℕ) → PlacedByFit S code label k p g w u → place S code label k p g w ≡ some u
+  unfolding place settle PlacedByFit
+  fit-placed zero p g w u e = ap some e
+  fit-placed (suc k) p g w u (b, f, e) =
+      let cs : List ℕ = childCodes code g [] in
+      let v : List ℕ = putChildren p (endValue g) b cs (putParent p b cs w) in
+      let settled : settle S p (endValue g) cs w ≡ some (b, v) =
+      ap (λ (o : Option ℕ). elim o as (λ _. Option (ℕ × List ℕ)) [ none ↦ none | some x ↦ some (x, putChildren p (endValue g) x cs (putParent p x cs w)) ]) (smallest-found S w cs b f) in
+      let gone : intoEach (goInto S code label k b g) cs v ≡ some u =
+      turn-in (into k b g) (goInto S code label k b g) (λ c x y r. fit-placed k (slotUnder b c) (below (label c) g) x y r) cs v u e in
+      ap (λ (o : Option (ℕ × List ℕ)). elim o as (λ _. Option (List ℕ)) [ none ↦ none | some s ↦ intoEach (λ c w′. place S code label k (slotUnder (s .0) c) (below (label c) g) w′) cs (s .1) ]) settled ∙ gone
+
+-- ---- the highest taken slot
+
+pub used-highest : (S : ℕ) (w : List ℕ) → HighestTaken S w (slotsUsed w S)
+used-highest S w = record {
+  from = used-low w S;
+  last = λ s e h. let r = used-last w S s e h in (r .0, taken-is w s .0 (r .1) .1);
+  none-above = λ s h l. go s h l (ℕ-discrete (checkAt w s) 0);
+}
+  where
+    go : (s : ℕ) → slotsUsed w S ≤ s → s < S → Dec (checkAt w s ≡ 0) → checkAt w s ≡ 0
+    go s h l (yes e) = e
+    go s h l (no n) = absurd (omega (arith, taken-used w S s l (taken-is w s .1 (omega (arith, used-low w S), n))))
+
+pub one-highest : (S : ℕ) (w : List ℕ) (M N : ℕ) → HighestTaken S w M → HighestTaken S w N → M ≡ N
+one-highest S w M N a b = same (not-above M N a b) (not-above N M b a)
+  where
+    not-above : (m n : ℕ) → HighestTaken S w m → HighestTaken S w n → m < n → ⊥
+    not-above m zero a b l = omega arith
+    not-above m (suc s) a b l = let t = b .last s refl (omega (arith, a .from)) in t .1 (a .none-above s (omega arith) (t .0))
+
+    same : (M < N → ⊥) → (N < M → ⊥) → M ≡ N
+    same h l = omega arith
