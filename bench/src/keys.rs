@@ -1,5 +1,5 @@
 //! Generated hiragana readings. They resemble the readings of a dictionary in
-//! their length, in how unevenly labels occur, and in how many front parts they
+//! their length, in how unevenly labels occur, and in how many prefixes they
 //! share.
 
 use crate::random::Random;

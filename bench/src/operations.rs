@@ -49,7 +49,7 @@ impl Operation {
             Operation::ExactAbsent => "exact, absent: a call looks up a reading that is no key",
             Operation::Prefixes => "prefixes: a call finds all keys at a position of a text",
             Operation::Longest => "longest: a call finds the longest key at a position of a text",
-            Operation::Probe => "probe: a call looks up a front part of a key",
+            Operation::Probe => "probe: a call looks up a prefix of a key",
             Operation::CompleteAll => "complete, all: a call checks the image and lists all keys",
             Operation::CompleteTwo => {
                 "complete, two labels: a call checks the image and lists the keys of a prefix"

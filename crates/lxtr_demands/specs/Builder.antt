@@ -96,8 +96,8 @@ pub record FirstFitImage (keys : List ℕ) (W : ℕ) (image : List ℕ) : Type 0
   pub highest : HighestTaken (slotsIn W) work slots
   pub is : image ≡ imageIn work slots labels
 
--- This image can be built: W is not below 4 (21), nothing is wrong with the key list (15 to 19), it has not more than 4,095 distinct
--- labels (20), at each slot some base fits (22), and the output is not shorter than the image (23).
+-- This image can be built: W is at least 4 (21), nothing is wrong with the key list (15 to 19), it has at most 4,095 distinct labels
+-- (20), at each slot some base fits (22), and the output is at least as long as the image (23).
 pub record Buildable (keys work out image : List ℕ) : Type 0 where
   pub words : 4 ≤ length work
   pub list-right : listRefusal keys ≡ 0

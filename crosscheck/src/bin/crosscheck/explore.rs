@@ -120,7 +120,7 @@ fn record_ends(image: &[u8], prefix: &[u8]) -> Vec<usize> {
     ends
 }
 
-/// Searches for the empty query, and for every front part of each key.
+/// Searches for the empty query, and for every prefix of each key.
 pub fn search_all_fronts(comparison: &mut Comparison, image: &[u8], keys: &[Key]) {
     search(comparison, image, &[], PLACE_WORDS);
     for key in keys {

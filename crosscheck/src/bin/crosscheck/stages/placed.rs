@@ -62,7 +62,7 @@ fn same_set_elsewhere(comparison: &mut Comparison, random: &mut Random, keys: &[
     }
 }
 
-/// One key of a length near the limit, with some of its front parts; searched at many lengths.
+/// One key of a length near the limit, with some of its prefixes; searched at many lengths.
 fn chain(comparison: &mut Comparison, random: &mut Random, length: usize) {
     let alphabet = keysets::alphabet(random);
     let key: Key = (0..length).map(|_| random.pick(&alphabet)).collect();
