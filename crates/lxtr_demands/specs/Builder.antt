@@ -1,6 +1,6 @@
 -- Demand 2 for the builder: from a sorted key list the image built is the one the first-fit rule gives, and it reads back as
--- those keys, numbered from 0. Only the statements, of any program; that the definitions meet them is `demand2-builder` in
--- Laws/Builder.antt.
+-- those keys, numbered from 0. Only the statements: the demand, of any program, which the definitions meet by `demand2-builder`, and
+-- their code map, by `codes-by-frequency`; both in Laws/Builder.antt.
 use Prim.Native.Nat.{ℕ, zero, suc, _≤_, _<_}
 use mathlib.Core.Path.{_≡_}
 use mathlib.Core.Logic.{_↔_, _⊎_, _≢_}
@@ -44,7 +44,7 @@ pub record ReadsBack (o : Operations) (keys image : List ℕ) : Type 0 where
 
 -- ---- the image that the first-fit rule gives
 
--- every child's slot under the base b, where the children have the codes cs, is free and lies in 2 to S-1
+-- b is from 0 to 65,535, and every child's slot under it is free and lies in 2 to S-1; the children have the codes cs
 pub record Fits (S : ℕ) (w cs : List ℕ) (b : ℕ) : Type 0 where
   pub base-in : b < baseCount
   pub slot-from : (c : ℕ) → List·Memᴰ c cs → 2 ≤ slotUnder b c
@@ -96,11 +96,28 @@ pub record FirstFitImage (keys : List ℕ) (W : ℕ) (image : List ℕ) : Type 0
   pub highest : HighestTaken (slotsIn W) work slots
   pub is : image ≡ imageIn work slots labels
 
--- This image can be built: W is at least 4 (21), nothing is wrong with the key list (15 to 19), it has at most 4,095 distinct labels
--- (20), at each slot some base fits (22), and the output is at least as long as the image (23).
+-- what 20, 22 and 23 come after: neither 21 nor 15 to 19 is given
+abbrev pub ListPasses : List ℕ → List ℕ → Type 0
+ListPasses keys work = (4 ≤ length work) × (listRefusal keys ≡ 0)
+
+-- Refusals, in order:
+pub data RefusedBy (keys work out : List ℕ) : ℕ → Type 0 where
+  -- 21 W below 4;
+  few-words : length work < 4 → RefusedBy keys work out 21
+  -- 15 to 19 of the key list;
+  list-wrong : 4 ≤ length work → listRefusal keys ≢ 0 → RefusedBy keys work out (listRefusal keys)
+  -- 20 more than 4,095 distinct labels;
+  many-labels : (labels : List ℕ) → ListPasses keys work → ByFrequency (pairsOf keys) labels → maxListed < length labels → RefusedBy keys work out 20
+  -- 22 at some slot no base fits: so there is no image;
+  no-base : (labels : List ℕ) → ListPasses keys work → ByFrequency (pairsOf keys) labels → length labels ≤ maxListed
+      → ((image : List ℕ) → FirstFitImage keys (length work) image → ⊥) → RefusedBy keys work out 22
+  -- 23 output shorter than the image.
+  short-output : (image : List ℕ) (f : FirstFitImage keys (length work) image) → ListPasses keys work → length (f .labels) ≤ maxListed → length out < length image
+      → RefusedBy keys work out 23
+
+-- none of them is given, and this is the image
 pub record Buildable (keys work out image : List ℕ) : Type 0 where
-  pub words : 4 ≤ length work
-  pub list-right : listRefusal keys ≡ 0
+  pub passes : ListPasses keys work
   pub by-first-fit : FirstFitImage keys (length work) image
   pub few-labels : length (by-first-fit .labels) ≤ maxListed
   pub room : length image ≤ length out
@@ -108,18 +125,17 @@ pub record Buildable (keys work out image : List ℕ) : Type 0 where
 -- ---- the demand
 
 pub record Demand2Builder (o : Operations) : Type 0 where
-  -- It refuses nothing exactly when some image can be built.
-  pub builds : (keys work out : List ℕ) → (o .build keys work out .answer .refusal ≡ 0) ↔ ((image : List ℕ) × Buildable keys work out image)
-  -- There is one such image.
+  -- An image can be built, or the call is refused. There is one such image.
+  pub decided : (keys work out : List ℕ) → ((image : List ℕ) × Buildable keys work out image) ⊎ ((k : ℕ) × RefusedBy keys work out k)
   pub one-image : (keys work out image other : List ℕ) → Buildable keys work out image → Buildable keys work out other → image ≡ other
-  -- Success writes the image at the front; the rest of the output stays. Work words are zero afterwards.
+  -- Success writes the image at the front; the rest of the output stays.
   pub built : (keys work out image : List ℕ) → Buildable keys work out image
-      → o .build keys work out ≡ record { answer = record { refusal = 0; length = length image }; output = image ++ drop (length image) out; work = replicate (length work) 0 }
+      → o .build keys work out ≡ record { answer = record { refusal = 0; length = length image }; output = image ++ drop (length image) out; work = workAfter work }
   -- It reads back.
   pub reads-back : (keys work out image : List ℕ) → Buildable keys work out image → ReadsBack o keys image
-  -- A refusal answers length 0 and leaves the output untouched. Work words are zero afterwards, except after 21, which leaves them.
-  pub refused : (keys work out : List ℕ) → o .build keys work out .answer .refusal ≢ 0
-      → o .build keys work out ≡ record { answer = record { refusal = o .build keys work out .answer .refusal; length = 0 }; output = out; work = workAfter work }
+  -- A refusal answers length 0 and leaves the output untouched.
+  pub refused : (keys work out : List ℕ) (k : ℕ) → RefusedBy keys work out k
+      → o .build keys work out ≡ record { answer = record { refusal = k; length = 0 }; output = out; work = workAfter work }
 
 -- ---- the code map of the definitions
 

@@ -33,5 +33,6 @@ pub mod Sections
 pub mod WorkSlots
 pub mod WorkLists
 pub mod BuiltImages
+pub mod KeysBack
 pub mod Placings
 pub mod Builder

@@ -1,10 +1,11 @@
 -- What the demands rule out, for every possible program. In each module, o is any program that meets the demand, whatever else it
--- does: over an image it answers what the definitions answer, and it builds what they build. So the programs that document 01 names
--- under "What the promises rule out" fail. Then what is ruled out for code maps and for places of faults.
+-- does: over an image it answers what the definitions answer, and from any key list it builds what they build, or refuses as they
+-- do. So the programs that document 01 names under "What the promises rule out" fail. Then what is ruled out for code maps and for
+-- places of faults.
 use Prim.Native.Nat.{ℕ, _%_, _≤_, _<_}
 use native.Mathlib.Omega.{arith}
 use mathlib.Core.Path.{_≡_, refl, sym, ap, _∙_, subst}
-use mathlib.Core.Logic.{_≢_, _↔_, inr}
+use mathlib.Core.Logic.{_≢_, _↔_, ⊎-elim, inr}
 use mathlib.Core.List.{List, [], _∷_, _++_, List·Memᴰ, List·Memᴰ·head, append-nil}
 use mathlib.Core.Option.{Option, some, none}
 use mathlib.Core.Bool.{Bool, true, false, true≢false}
@@ -29,7 +30,7 @@ use Rattle.lxtr_spec.specs.declared.Fault.the-variants.{Entry}
 use Rattle.lxtr_demands.specs.Operations.{Operations}
 use Rattle.lxtr_demands.specs.Demand2.{Demand2}
 use Rattle.lxtr_demands.specs.Demand3.{Demand3}
-use Rattle.lxtr_demands.specs.Builder.{Demand2Builder, ByFrequency}
+use Rattle.lxtr_demands.specs.Builder.{ByFrequency, RefusedBy, few-words, list-wrong, many-labels, no-base, short-output, Buildable, Demand2Builder}
 use Rattle.lxtr_demands.specs.RightPlaces.{Right}
 use Rattle.lxtr_demands.specs.Rows.{computing}
 use Rattle.lxtr_demands.specs.Laws.Demand2.{demand2}
@@ -260,7 +261,7 @@ module _ (o : Operations) (meets : Demand2 o) where
 
 -- ---- demand 2: the builder
 
--- what begins with an image begins with `L`
+-- what begins with bytes that begin with `L` begins with `L`
 begins-with : (image rest : List ℕ) → getD image 0 0 ≡ 0x4C → getD (image ++ rest) 0 0 ≡ 0x4C
 begins-with [] rest e = absurd (omega arith)
 begins-with (x ∷ image) rest e = e
@@ -276,21 +277,34 @@ builds3 : (buildOf keys3 (blank 14) (blank 141) .answer .refusal ≡ 0) × (pair
 unfolding computing
 builds3 = (refl, refl)
 
-module _ (o : Operations) (meets : Demand2Builder o) where
-  -- What the definitions build, it builds, with the same answer, output and work. What they refuse, it refuses.
-  pub only-build : (keys work out : List ℕ) → buildOf keys work out .answer .refusal ≡ 0 → o .build keys work out ≡ buildOf keys work out
-  only-build keys work out e =
-      let (image, can) = demand2-builder .builds keys work out .0 e in
-      meets .built keys work out image can ∙ sym (demand2-builder .built keys work out image can)
+-- refusal numbers are above 0
+refusal-above-0 : (keys work out : List ℕ) (k : ℕ) → RefusedBy keys work out k → k ≢ 0
+refusal-above-0 keys work out k (few-words h) e = omega (arith, e)
+refusal-above-0 keys work out k (list-wrong h n) e = n e
+refusal-above-0 keys work out k (many-labels labels p by h) e = omega (arith, e)
+refusal-above-0 keys work out k (no-base labels p by h n) e = omega (arith, e)
+refusal-above-0 keys work out k (short-output image f p h l) e = omega (arith, e)
 
-  pub only-refuse : (keys work out : List ℕ) → buildOf keys work out .answer .refusal ≢ 0 → o .build keys work out .answer .refusal ≢ 0
-  only-refuse keys work out refuses e = refuses (demand2-builder .builds keys work out .1 (meets .builds keys work out .0 e))
+module _ (o : Operations) (meets : Demand2Builder o) where
+  -- No other answer, output or work meets the demand, for any key list, work and output.
+  pub only-build : (keys work out : List ℕ) → o .build keys work out ≡ buildOf keys work out
+  only-build keys work out = ⊎-elim
+      (λ (image, can). meets .built keys work out image can ∙ sym (demand2-builder .built keys work out image can))
+      (λ (k, is). meets .refused keys work out k is ∙ sym (demand2-builder .refused keys work out k is))
+      (demand2-builder .decided keys work out)
+
+  -- What is not refused can be built.
+  can-build : (keys work out : List ℕ) → o .build keys work out .answer .refusal ≡ 0 → (image : List ℕ) × Buildable keys work out image
+  can-build keys work out e = ⊎-elim
+      (λ (c : (image : List ℕ) × Buildable keys work out image). c)
+      (λ (k, is). absurd (refusal-above-0 keys work out k is (sym (ap (λ (a : BuildAnswer). a .answer .refusal) (meets .refused keys work out k is)) ∙ e)))
+      (demand2-builder .decided keys work out)
 
   -- If nothing is refused, something is written: the output begins with `L`, as an image does.
   pub unwritten-fails : (keys work out : List ℕ) → getD out 0 0 ≢ 0x4C → o .build keys work out .answer .refusal ≡ 0 → o .build keys work out .output ≡ out → ⊥
   unfolding magic
   unwritten-fails keys work out other e idle =
-      let (image, can) = meets .builds keys work out .0 e in
+      let (image, can) = can-build keys work out e in
       let begins : getD image 0 0 ≡ 0x4C = meets .reads-back keys work out image can .image-of .framed .magic-bytes 0 (omega arith) in
       let written : o .build keys work out .output ≡ image ++ drop (length image) out = ap (λ (a : BuildAnswer). a .output) (meets .built keys work out image can) in
       other (ap (λ (l : List ℕ). getD l 0 0) (sym idle ∙ written) ∙ begins-with image (drop (length image) out) begins)
@@ -303,7 +317,7 @@ module _ (o : Operations) (meets : Demand2Builder o) where
   pub one-level-fails : (keys work out k : List ℕ) (x v : ℕ) → List·Memᴰ (k ++ x ∷ [], v) (pairsOf keys) → o .build keys work out .answer .refusal ≡ 0
       → ((s : ℕ) → 2 ≤ s → s < slotCount (writes keys work out) → parent (writes keys work out) s ≤ 1) → ⊥
   one-level-fails keys work out k x v m e low =
-      let (image, can) = meets .builds keys work out .0 e in
+      let (image, can) = can-build keys work out e in
       let is : writes keys work out ≡ image = ap (λ (a : BuildAnswer). take (a .answer .length) (a .output)) (meets .built keys work out image can) ∙ take-append-seam image (drop (length image) out) in
       let back = meets .reads-back keys work out image can in
       let placed = back .image-of .placed in
@@ -317,7 +331,7 @@ module _ (o : Operations) (meets : Demand2Builder o) where
   -- So a builder that refuses all fails, on P3's keys, and so does one that writes nothing, and one that places slot 1's children
   -- and no more.
   builds : o .build keys3 (blank 14) (blank 141) .answer .refusal ≡ 0
-  builds = ap (λ (a : BuildAnswer). a .answer .refusal) (only-build keys3 (blank 14) (blank 141) (builds3 .0)) ∙ builds3 .0
+  builds = ap (λ (a : BuildAnswer). a .answer .refusal) (only-build keys3 (blank 14) (blank 141)) ∙ builds3 .0
 
   pub refusing-builder-fails : ((keys work out : List ℕ) → o .build keys work out .answer .refusal ≢ 0) → ⊥
   refusing-builder-fails refuses = refuses keys3 (blank 14) (blank 141) builds

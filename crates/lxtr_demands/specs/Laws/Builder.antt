@@ -1,112 +1,30 @@
--- Demand 2 for the builder, from its parts: what is built is placed by first fit, it is an image of the set of the key list's
--- pairs, and over an image the searches, the check and completion answer what its set says.
-use Prim.Native.Nat.{ℕ, _*_, zero, suc, _%_, _^_, _<_, _≤_}
+-- Demand 2 for the builder, from its parts: the definitions place exactly the first-fit image, each of their refusals is one of the
+-- statement, and what is built reads back.
+use Prim.Native.Nat.{ℕ, zero, suc, _<_, _≤_}
 use native.Mathlib.Omega.{arith}
+use native.Mathlib.Decide.{decLt, ℕ-discrete}
 use mathlib.Core.Path.{_≡_, refl, sym, ap, ap₂, _∙_, subst}
-use mathlib.Core.Logic.{_≢_}
-use mathlib.Core.List.{List, [], _∷_, _++_, append-nil, List·Memᴰ}
-use mathlib.Core.Option.{some, none}
-use mathlib.Core.Bool.{true}
-use lib.ListN.{getD, length, drop, replicate}
-use lib.Seq.{ext-getD}
-use Rattle.lxtr_spec.specs.Numbers.{be32, beWords}
-use Rattle.lxtr_spec.specs.Labels.{lengthCount, maxListed, labelsOf, comesBefore, Pair}
-use Rattle.lxtr_spec.specs.Refusals.{unlessRefused, endCount, checkOf}
-use Rattle.lxtr_spec.specs.Searches.{searchRefusal, exactValue, exactOf}
-use Rattle.lxtr_spec.specs.KeyLists.{keysAt, keyCount, pairsOf}
+use mathlib.Core.Logic.{_⊎_, inl, inr}
+use mathlib.Core.List.{List}
+use mathlib.Core.Option.{Option, some, none, Option·none-ne-some}
+use lib.ListN.{length, replicate}
+use Rattle.lxtr_spec.specs.Labels.{lengthCount, maxListed, Pair}
+use Rattle.lxtr_spec.specs.KeyLists.{pairsOf, listRefusal}
 use Rattle.lxtr_spec.specs.CodeMaps.{frequency, mapOf, codeIn, labelWith}
-use Rattle.lxtr_spec.specs.Builds.{imageIn, slotsUsed, slotsIn, placedIn, BuildAnswer, buildOf}
-use Rattle.lxtr_spec.specs.Sets.{PairSet, Has, ImageOf}
-use Rattle.lxtr_spec.specs.Meaning.{Ordered, Lists}
-use Rattle.lxtr_laws.specs.Members.{member-at}
-use Rattle.lxtr_laws.specs.Lengths.{words-length}
-use Rattle.lxtr_laws.specs.KeyOrder.{before-self}
-use Rattle.lxtr_laws.specs.StepFacts.{none-not-some}
-use Rattle.lxtr_laws.specs.QueryLabels.{label-count, label-read}
-use Rattle.lxtr_laws.specs.Sorted.{Sorted, sorted-weaker, ordered-weaker, one-list}
-use Rattle.lxtr_build_laws.specs.KeyListFacts.{Ascending, KeysRight}
-use Rattle.lxtr_build_laws.specs.KeyReading.{keys-length}
+use Rattle.lxtr_spec.specs.Builds.{slotsUsed, imageIn, slotsIn, placedIn, refuses, builds, outcomeOf}
+use Rattle.lxtr_spec.specs.Sets.{ImageOf}
+use Rattle.lxtr_spec.specs.Meaning.{Ordered}
+use Rattle.lxtr_laws.specs.Sorted.{ordered-weaker, one-list}
+use Rattle.lxtr_build_laws.specs.KeyListFacts.{KeysRight}
 use Rattle.lxtr_build_laws.specs.Passing.{list-passed}
 use Rattle.lxtr_build_laws.specs.Maps.{Before, before-is, is-before, before-trans, before-apart, map-members, map-ordered}
-use Rattle.lxtr_build_laws.specs.PairSets.{setOf, set-members}
-use Rattle.lxtr_build_laws.specs.Outcomes.{BuildSteps, steps-answer, answer-steps, steps-one, refusal-alone}
+use Rattle.lxtr_build_laws.specs.PairSets.{setOf}
+use Rattle.lxtr_build_laws.specs.Outcomes.{words-few, list-refused, labels-many, none-placed, room-short, room-enough, call-refuses, call-builds}
 use Rattle.lxtr_demands.specs.Operations.{defined}
-use Rattle.lxtr_demands.specs.Builder.{ReadsBack, PlacedByFit, FrequencyBefore, ByFrequency, CodesByFrequency, Buildable, Demand2Builder}
-use Rattle.lxtr_demands.specs.Laws.Images.{image-passes, known-image}
-use Rattle.lxtr_demands.specs.Laws.Counts.{pairs-counted, listing-counted}
-use Rattle.lxtr_demands.specs.Laws.Demand3.{demand3}
-use Rattle.lxtr_demands.specs.Laws.Demand2.{exact-set, demand2}
-use Rattle.lxtr_laws.specs.ReadBack.{be-words}
+use Rattle.lxtr_demands.specs.Builder.{ReadsBack, PlacedByFit, FrequencyBefore, ByFrequency, CodesByFrequency, FirstFitImage, ListPasses, RefusedBy, few-words, list-wrong, many-labels, no-base, short-output, Buildable, Demand2Builder}
 use Rattle.lxtr_demands.specs.Laws.Placings.{placed-by-fit, fit-placed, used-highest, one-highest}
-use Rattle.lxtr_demands.specs.Laws.BuiltImages.{scalar-small, image-of-work}
-
--- a query written for these labels has these labels
-labels-back : (k : List ℕ) → ((i : ℕ) → i < length k → getD k i 0 < 2 ^ 32) → labelsOf (beWords k) ≡ k
-labels-back k small =
-    let count : length (labelsOf (beWords k)) ≡ length k = omega (arith, label-count (beWords k), words-length k) in
-    ext-getD 0 (labelsOf (beWords k)) k count (λ i h.
-    let l : i < length k = omega arith in
-    sym (label-read (beWords k) i h (getD k i 0) (sym (be-words k [] i l (small i l)) ∙ ap (λ (b : List ℕ). be32 b (4 * i)) (append-nil (beWords k)))))
-
--- keys in ascending order are sorted, so they differ
-ascending-sorted : (ps : List Pair) → Ascending ps → Sorted (λ p r. comesBefore (p .0) (r .0) ≡ true) ps
-unfolding Ascending Sorted
-ascending-sorted [] a = tt
-ascending-sorted (p ∷ ps) a = (a .0, ascending-sorted ps (a .1))
-
-keys-differ : (ps : List Pair) → Ascending ps → Sorted (λ p r. p .0 ≢ r .0) ps
-keys-differ ps a = sorted-weaker (λ p r. comesBefore (p .0) (r .0) ≡ true) (λ p r. p .0 ≢ r .0)
-    (λ p r h e. before-self (r .0) (ap (λ (k : List ℕ). comesBefore k (r .0)) (sym e) ∙ h)) ps (ascending-sorted ps a)
-
-module _ (keys image : List ℕ) (right : KeysRight (pairsOf keys)) (image-of : ImageOf image (setOf (pairsOf keys))) where
-  abbrev ps : List Pair
-  ps = pairsOf keys
-
-  abbrev d : PairSet
-  d = setOf (pairsOf keys)
-
-  member : (k : List ℕ) (v : ℕ) → Has d k v → List·Memᴰ (k, v) ps
-  member k v = set-members ps (right .ascending) k v .0
-
-  has : (k : List ℕ) (v : ℕ) → List·Memᴰ (k, v) ps → Has d k v
-  has k v = set-members ps (right .ascending) k v .1
-
-  keys-count : length ps ≡ keyCount keys
-  unfolding pairsOf
-  keys-count = keys-length keys (keyCount keys) 0 keysAt
-
-  ends-count : endCount image ≡ keyCount keys
-  ends-count = pairs-counted (known-image image-of) ps (keys-differ ps (right .ascending)) member has ∙ keys-count
-
-  listing-count : (rs : List Pair) → Lists image d [] rs → length rs ≡ keyCount keys
-  listing-count rs l = sym (listing-counted (known-image image-of) rs l) ∙ ends-count
-
-  exact-finds : (k : List ℕ) (v : ℕ) → List·Memᴰ (k, v) ps → exactOf image (beWords k) ≡ record { refusal = 0; value = some v }
-  exact-finds k v m =
-      let small : (i : ℕ) → i < length k → getD k i 0 < 2 ^ 32 = λ i h. scalar-small (getD k i 0) (right .scalar (k, v) m (getD k i 0) (member-at 0 k i h)) in
-      let whole : length (beWords k) % 4 ≡ 0 = omega (arith, words-length k) in
-      demand2 image d (beWords k) image-of whole .searched .exact ∙ rw (labels-back k small, has k v m)
-
-  exact-only : (q : List ℕ) (v : ℕ) → exactOf image q .value ≡ some v → List·Memᴰ (labelsOf q, v) ps
-  unfolding exactOf unlessRefused
-  exact-only q v e = go (searchRefusal image q) e
-    where
-      go : (n : ℕ) → unlessRefused n (exactValue image (labelsOf q)) none ≡ some v → List·Memᴰ (labelsOf q, v) ps
-      go zero e = member (labelsOf q) v (ap (λ (f : PairSet). f (labelsOf q)) (sym (exact-set (known-image image-of))) ∙ e)
-      go (suc n) e = absurd (none-not-some e)
-
-  reads-back : ReadsBack defined keys image
-  unfolding checkOf unlessRefused
-  reads-back = record {
-    pair-set = d;
-    pair-set-is = record { each = has; only = member };
-    image-of = image-of;
-    checked = rw (image-passes image-of, ends-count);
-    exact = exact-finds;
-    exact-only = exact-only;
-    listing = demand3 image .listing d image-of;
-    completion = λ rs room l h. demand3 image .completion d rs room image-of l h ∙ rw (listing-count rs l);
-  }
+use Rattle.lxtr_demands.specs.Laws.BuiltImages.{image-of-work}
+use Rattle.lxtr_demands.specs.Laws.KeysBack.{reads-back}
 
 -- ---- the code map
 
@@ -122,69 +40,110 @@ codes-by-frequency = record {
 
 -- ---- the demand
 
-module _ (keys work out image : List ℕ) where
+module _ (keys work out : List ℕ) where
   abbrev W : ℕ
   W = length work
 
+  abbrev ps : List Pair
+  ps = pairsOf keys
+
   abbrev map : List ℕ
-  map = mapOf (pairsOf keys)
+  map = mapOf ps
 
-  abbrev PlacedWith : List ℕ → List ℕ → Type 0
-  PlacedWith labels w = PlacedByFit (slotsIn W) (codeIn labels) (labelWith labels) lengthCount 1 (pairsOf keys) (replicate W 0) w
+  -- the code map is the only one by frequency
+  same-map : (labels : List ℕ) → ByFrequency ps labels → labels ≡ map
+  same-map labels by = codes-by-frequency .one-map ps labels map by (codes-by-frequency .listed ps)
 
-  -- the steps of the definitions are those of the statement
-  steps-buildable : BuildSteps W (length out) keys image → Buildable keys work out image
+  -- what the definitions place is a first-fit image,
+  placed-image : (w : List ℕ) → placedIn W ps map ≡ some w → FirstFitImage keys W (imageIn w (slotsUsed w (slotsIn W)) map)
   unfolding placedIn
-  steps-buildable b = record {
-    words = b .words;
-    list-right = b .right;
-    by-first-fit = record {
-      labels = map;
-      by-frequency = codes-by-frequency .listed (pairsOf keys);
-      work = b .work;
-      placed = placed-by-fit (slotsIn W) (codeIn map) (labelWith map) lengthCount 1 (pairsOf keys) (replicate W 0) (b .work) (b .placed);
-      slots = slotsUsed (b .work) (slotsIn W);
-      highest = used-highest (slotsIn W) (b .work);
-      is = b .is;
-    };
-    few-labels = b .few;
-    room = b .room;
+  placed-image w e = record {
+    labels = map;
+    by-frequency = codes-by-frequency .listed ps;
+    work = w;
+    placed = placed-by-fit (slotsIn W) (codeIn map) (labelWith map) lengthCount 1 ps (replicate W 0) w e;
+    slots = slotsUsed w (slotsIn W);
+    highest = used-highest (slotsIn W) w;
+    is = refl;
   }
 
-  buildable-steps : Buildable keys work out image → BuildSteps W (length out) keys image
-  unfolding placedIn
-  buildable-steps b =
+  -- and every first-fit image is what they place
+  module _ (image : List ℕ) (f : FirstFitImage keys W image) where
+    image-placed : placedIn W ps map ≡ some (f .work)
+    unfolding placedIn
+    image-placed = fit-placed (slotsIn W) (codeIn map) (labelWith map) lengthCount 1 ps (replicate W 0) (f .work)
+        (subst (λ (l : List ℕ). PlacedByFit (slotsIn W) (codeIn l) (labelWith l) lengthCount 1 ps (replicate W 0) (f .work)) (same-map (f .labels) (f .by-frequency)) (f .placed))
+
+    image-is : image ≡ imageIn (f .work) (slotsUsed (f .work) (slotsIn W)) map
+    image-is = f .is ∙ ap₂ (imageIn (f .work)) (one-highest (slotsIn W) (f .work) (f .slots) (slotsUsed (f .work) (slotsIn W)) (f .highest) (used-highest (slotsIn W) (f .work))) (same-map (f .labels) (f .by-frequency))
+
+    map-few : length (f .labels) ≤ maxListed → length map ≤ maxListed
+    map-few = subst (λ (l : List ℕ). length l ≤ maxListed) (same-map (f .labels) (f .by-frequency))
+
+  outcome-built : (image : List ℕ) → Buildable keys work out image → outcomeOf W (length out) keys ≡ builds image
+  outcome-built image b =
       let f = b .by-first-fit in
-      let same-labels : f .labels ≡ map = codes-by-frequency .one-map (pairsOf keys) (f .labels) map (f .by-frequency) (codes-by-frequency .listed (pairsOf keys)) in
-      let same-slots : f .slots ≡ slotsUsed (f .work) (slotsIn W) = one-highest (slotsIn W) (f .work) (f .slots) (slotsUsed (f .work) (slotsIn W)) (f .highest) (used-highest (slotsIn W) (f .work)) in
-      record {
-        words = b .words;
-        right = b .list-right;
-        few = subst (λ (l : List ℕ). length l ≤ maxListed) same-labels (b .few-labels);
-        work = f .work;
-        placed = fit-placed (slotsIn W) (codeIn map) (labelWith map) lengthCount 1 (pairsOf keys) (replicate W 0) (f .work) (subst (λ (l : List ℕ). PlacedWith l (f .work)) same-labels (f .placed));
-        is = f .is ∙ ap₂ (imageIn (f .work)) same-slots same-labels;
-        room = b .room;
-      }
+      room-enough W (length out) keys (b .passes .0) (b .passes .1) (map-few image f (b .few-labels)) (f .work) image (image-placed image f) (image-is image f) (b .room)
 
-  built : Buildable keys work out image
-      → buildOf keys work out ≡ record { answer = record { refusal = 0; length = length image }; output = image ++ drop (length image) out; work = replicate W 0 }
-  built b = steps-answer keys work out image (buildable-steps b)
+  outcome-refused : (k : ℕ) → RefusedBy keys work out k → outcomeOf W (length out) keys ≡ refuses k
+  outcome-refused k (few-words h) = words-few W (length out) keys h
+  outcome-refused k (list-wrong h n) = go (listRefusal keys) refl
+    where
+      go : (m : ℕ) → listRefusal keys ≡ m → outcomeOf W (length out) keys ≡ refuses (listRefusal keys)
+      go zero e = absurd (n e)
+      go (suc m) e = list-refused W (length out) keys h m e ∙ ap refuses (sym e)
+  outcome-refused k (many-labels labels p by h) = labels-many W (length out) keys (p .0) (p .1) (subst (λ (l : List ℕ). maxListed < length l) (same-map labels by) h)
+  outcome-refused k (no-base labels p by h n) =
+      none-placed W (length out) keys (p .0) (p .1) (subst (λ (l : List ℕ). length l ≤ maxListed) (same-map labels by) h) (go (placedIn W ps map) refl)
+    where
+      go : (o : Option (List ℕ)) → placedIn W ps map ≡ o → placedIn W ps map ≡ none
+      go none e = e
+      go (some w) e = absurd (n (imageIn w (slotsUsed w (slotsIn W)) map) (placed-image w e))
+  outcome-refused k (short-output image f p h l) =
+      room-short W (length out) keys (p .0) (p .1) (map-few image f h) (f .work) image (image-placed image f) (image-is image f) l
 
-  built-reads-back : Buildable keys work out image → ReadsBack defined keys image
-  built-reads-back b =
-      let n = buildable-steps b in
-      let right : KeysRight (pairsOf keys) = list-passed keys (n .right) .right in
-      reads-back keys image right (subst (λ (i : List ℕ). ImageOf i (setOf (pairsOf keys))) (sym (n .is)) (image-of-work W (pairsOf keys) (n .work) (n .words) right (n .few) (n .placed)))
+  -- each test decides
+  decided : ((image : List ℕ) × Buildable keys work out image) ⊎ ((k : ℕ) × RefusedBy keys work out k)
+  decided = by-words (decLt W 4)
+    where
+      Decision : Type 0
+      Decision = ((image : List ℕ) × Buildable keys work out image) ⊎ ((k : ℕ) × RefusedBy keys work out k)
+
+      by-room : ListPasses keys work → (image : List ℕ) (f : FirstFitImage keys W image) → length (f .labels) ≤ maxListed → Dec (length out < length image) → Decision
+      by-room p image f h (yes l) = inr (23, short-output image f p h l)
+      by-room p image f h (no n) = inl (image, record { passes = p; by-first-fit = f; few-labels = h; room = omega arith })
+
+      by-place : ListPasses keys work → length map ≤ maxListed → (o : Option (List ℕ)) → placedIn W ps map ≡ o → Decision
+      by-place p h none e = inr (22, no-base map p (codes-by-frequency .listed ps) h (λ image f. Option·none-ne-some (f .work) (sym e ∙ image-placed image f)))
+      by-place p h (some w) e =
+          let f = placed-image w e in
+          let image : List ℕ = imageIn w (slotsUsed w (slotsIn W)) map in
+          by-room p image f (subst (λ (l : List ℕ). length l ≤ maxListed) (sym (same-map (f .labels) (f .by-frequency))) h) (decLt (length out) (length image))
+
+      by-labels : ListPasses keys work → Dec (maxListed < length map) → Decision
+      by-labels p (yes h) = inr (20, many-labels map p (codes-by-frequency .listed ps) h)
+      by-labels p (no n) = by-place p (omega arith) (placedIn W ps map) refl
+
+      by-list : 4 ≤ W → Dec (listRefusal keys ≡ 0) → Decision
+      by-list h (yes e) = by-labels (h, e) (decLt maxListed (length map))
+      by-list h (no n) = inr (listRefusal keys, list-wrong h n)
+
+      by-words : Dec (W < 4) → Decision
+      by-words (yes h) = inr (21, few-words h)
+      by-words (no n) = by-list (omega arith) (ℕ-discrete (listRefusal keys) 0)
+
+built-reads-back : (keys work out image : List ℕ) → Buildable keys work out image → ReadsBack defined keys image
+built-reads-back keys work out image b =
+    let f = b .by-first-fit in
+    let right : KeysRight (pairsOf keys) = list-passed keys (b .passes .1) .right in
+    reads-back keys image right (subst (λ (i : List ℕ). ImageOf i (setOf (pairsOf keys))) (sym (image-is keys work out image f))
+    (image-of-work (length work) (pairsOf keys) (f .work) (b .passes .0) right (map-few keys work out image f (b .few-labels)) (image-placed keys work out image f)))
 
 pub demand2-builder : Demand2Builder defined
 demand2-builder = record {
-  builds = λ keys work out. (
-    λ e. let (image, b) = answer-steps keys work out e in (image, steps-buildable keys work out image b),
-    λ (image, b). ap (λ (a : BuildAnswer). a .answer .refusal) (built keys work out image b),
-  );
-  one-image = λ keys work out image other b c. steps-one keys work out image other (buildable-steps keys work out image b) (buildable-steps keys work out other c);
-  built = built;
+  decided = decided;
+  one-image = λ keys work out image other b c. let q : builds image ≡ builds other = sym (outcome-built keys work out image b) ∙ outcome-built keys work out other c in cc;
+  built = λ keys work out image b. call-builds keys work out image (outcome-built keys work out image b);
   reads-back = built-reads-back;
-  refused = refusal-alone;
+  refused = λ keys work out k r. call-refuses keys work out k (outcome-refused keys work out k r);
 }

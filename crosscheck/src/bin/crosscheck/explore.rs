@@ -121,7 +121,7 @@ fn record_ends(image: &[u8], prefix: &[u8]) -> Vec<usize> {
 }
 
 /// Searches for the empty query, and for every prefix of each key.
-pub fn search_all_fronts(comparison: &mut Comparison, image: &[u8], keys: &[Key]) {
+pub fn search_all_prefixes(comparison: &mut Comparison, image: &[u8], keys: &[Key]) {
     search(comparison, image, &[], PLACE_WORDS);
     for key in keys {
         for length in 1..=key.len() {

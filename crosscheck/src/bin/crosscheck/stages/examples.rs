@@ -2,7 +2,7 @@
 
 use crate::call::Call;
 use crate::comparison::Comparison;
-use crate::explore::{complete_at_every_size, search, search_all_fronts};
+use crate::explore::{complete_at_every_size, search, search_all_prefixes};
 use crosscheck::answers::PLACE_WORDS;
 use crosscheck::builder::image_of;
 use crosscheck::common::query_of;
@@ -34,7 +34,7 @@ fn example(comparison: &mut Comparison, keys: &[Key]) {
         }
     }
     comparison.image(&image);
-    search_all_fronts(comparison, &image, keys);
+    search_all_prefixes(comparison, &image, keys);
     for labels in [vec![0x61], vec![0x78], vec![0x6E, 0x61, 0x6E], vec![0x6E, 0], vec![0xD800]] {
         search(comparison, &image, &query_of(&labels), PLACE_WORDS + 1);
         complete_at_every_size(comparison, &image, &query_of(&labels));
