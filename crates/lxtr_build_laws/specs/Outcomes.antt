@@ -34,21 +34,21 @@ module _ (W R : ℕ) (keys : List ℕ) where
   list-refused h k e = words-enough h ∙ ap afterList e
 
   module _ (words : 4 ≤ W) (right : listRefusal keys ≡ 0) where
-    list-passed : outcomeOf W R keys ≡ fromLabels W R (pairsOf keys) labels
+    list-right : outcomeOf W R keys ≡ fromLabels W R (pairsOf keys) labels
     unfolding fromKeys
-    list-passed = words-enough words ∙ ap afterList right
+    list-right = words-enough words ∙ ap afterList right
 
     abbrev afterLabels : Bool → Outcome
     afterLabels t = elim t as (λ _. Outcome) [ true ↦ refuses 20 | false ↦ fromPlaced (slotsIn W) R labels (placedIn W (pairsOf keys) labels) ]
 
     pub labels-many : maxListed < length labels → outcomeOf W R keys ≡ refuses 20
     unfolding fromLabels
-    labels-many h = list-passed ∙ ap afterLabels (lt-ltb maxListed (length labels) h)
+    labels-many h = list-right ∙ ap afterLabels (lt-ltb maxListed (length labels) h)
 
     module _ (few : length labels ≤ maxListed) where
       labels-few : outcomeOf W R keys ≡ fromPlaced (slotsIn W) R labels (placedIn W (pairsOf keys) labels)
       unfolding fromLabels
-      labels-few = list-passed ∙ ap afterLabels (le-ltb maxListed (length labels) few)
+      labels-few = list-right ∙ ap afterLabels (le-ltb maxListed (length labels) few)
 
       pub none-placed : placedIn W (pairsOf keys) labels ≡ none → outcomeOf W R keys ≡ refuses 22
       unfolding fromPlaced

@@ -159,10 +159,10 @@ longer-differs e = true≢false e
 abbrev pub Constant : {A : Type 0} → (List ℕ → A) → Type 0
 Constant f = (q r : List ℕ) → length q % 4 ≡ 0 → length r % 4 ≡ 0 → f q ≡ f r
 
--- one that answers what the definition answers is not constant, if the definition tells two queries apart
-constant-fails : {A : Type 0} (mine theirs : List ℕ → A) → ((q : List ℕ) → length q % 4 ≡ 0 → mine q ≡ theirs q)
-    → (q r : List ℕ) → length q % 4 ≡ 0 → length r % 4 ≡ 0 → (theirs q ≡ theirs r → ⊥) → Constant mine → ⊥
-constant-fails mine theirs only q r whole whole′ differ same = differ (sym (only q whole) ∙ same q r whole whole′ ∙ only r whole′)
+-- a part of the answer is not constant, if the answers are those of the definition and it tells two queries apart by this part
+constant-fails : {X A : Type 0} (part : X → A) (mine theirs : List ℕ → X) → ((q : List ℕ) → length q % 4 ≡ 0 → mine q ≡ theirs q)
+    → (q r : List ℕ) → length q % 4 ≡ 0 → length r % 4 ≡ 0 → (part (theirs q) ≡ part (theirs r) → ⊥) → Constant (λ q. part (mine q)) → ⊥
+constant-fails part mine theirs only q r whole whole′ differ same = differ (sym (ap part (only q whole)) ∙ same q r whole whole′ ∙ ap part (only r whole′))
 
 -- two lent rooms over P11: one for all pairs, and one for none
 abbrev blank : ℕ → List ℕ
@@ -221,24 +221,19 @@ module _ (o : Operations) (meets : Demand2 o) where
 
   -- A search with a constant answer fails, on P4 to P6: exact, prefixes, longest, and both parts of probe.
   pub constant-exact-fails : Constant (λ q. o .exact p3 q .value) → ⊥
-  constant-exact-fails = constant-fails (λ q. o .exact p3 q .value) (λ q. exactOf p3 q .value)
-      (λ q whole. ap (λ (a : ExactAnswer). a .value) (only-exact p3 q p3-is-image whole)) q6e q61 refl refl exact-differs
+  constant-exact-fails = constant-fails (λ (a : ExactAnswer). a .value) (o .exact p3) (exactOf p3) (λ q. only-exact p3 q p3-is-image) q6e q61 refl refl exact-differs
 
   pub constant-prefixes-fail : Constant (λ q. o .prefixes p3 q .count) → ⊥
-  constant-prefixes-fail = constant-fails (λ q. o .prefixes p3 q .count) (λ q. prefixesOf p3 q .count)
-      (λ q whole. ap (λ (a : Prefixes). a .count) (only-prefixes p3 q p3-is-image whole)) q6e q61 refl refl prefixes-differ
+  constant-prefixes-fail = constant-fails (λ (a : Prefixes). a .count) (o .prefixes p3) (prefixesOf p3) (λ q. only-prefixes p3 q p3-is-image) q6e q61 refl refl prefixes-differ
 
   pub constant-longest-fails : Constant (λ q. length (o .longest p3 q .part)) → ⊥
-  constant-longest-fails = constant-fails (λ q. length (o .longest p3 q .part)) (λ q. length (longestOf p3 q .part))
-      (λ q whole. ap (λ (a : LongestAnswer). length (a .part)) (only-longest p3 q p3-is-image whole)) q6e q61 refl refl longest-differs
+  constant-longest-fails = constant-fails (λ (a : LongestAnswer). length (a .part)) (o .longest p3) (longestOf p3) (λ q. only-longest p3 q p3-is-image) q6e q61 refl refl longest-differs
 
   pub constant-value-fails : Constant (λ q. o .probe p3 q .value) → ⊥
-  constant-value-fails = constant-fails (λ q. o .probe p3 q .value) (λ q. probeOf p3 q .value)
-      (λ q whole. ap (λ (a : ProbeAnswer). a .value) (only-probe p3 q p3-is-image whole)) q6e q61 refl refl probe-differs
+  constant-value-fails = constant-fails (λ (a : ProbeAnswer). a .value) (o .probe p3) (probeOf p3) (λ q. only-probe p3 q p3-is-image) q6e q61 refl refl probe-differs
 
   pub constant-longer-fails : Constant (λ q. o .probe p3 q .longer) → ⊥
-  constant-longer-fails = constant-fails (λ q. o .probe p3 q .longer) (λ q. probeOf p3 q .longer)
-      (λ q whole. ap (λ (a : ProbeAnswer). a .longer) (only-probe p3 q p3-is-image whole)) q6e q6e61 refl refl longer-differs
+  constant-longer-fails = constant-fails (λ (a : ProbeAnswer). a .longer) (o .probe p3) (probeOf p3) (λ q. only-probe p3 q p3-is-image) q6e q6e61 refl refl longer-differs
 
   -- A completion that writes nothing fails, on P11.
   pub idle-completion-fails : ((room : List ℕ) → 5 ≤ length room → o .complete p11 [] room .room ≡ room) → ⊥
