@@ -7,6 +7,7 @@ pub mod Joining
 pub mod Image
 pub mod Refusals
 pub mod FaultPlaces
+pub mod HighestValues
 pub mod Walks
 pub mod Searches
 pub mod Completions

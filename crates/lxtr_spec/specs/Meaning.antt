@@ -3,7 +3,7 @@ use Prim.Native.Nat.{ℕ, _≤_, _<_}
 use mathlib.Core.Path.{_≡_}
 use mathlib.Core.Logic.{_⊎_}
 use mathlib.Core.List.{List, [], _∷_, _++_, map, List·Memᴰ}
-use mathlib.Core.Option.{Option·getD}
+use mathlib.Core.Option.{Option, some, Option·getD}
 use mathlib.Core.Bool.{Bool, true}
 use lib.ListN.{length}
 use Rattle.lxtr_spec.specs.Labels.{comesBefore, Pair}
@@ -19,6 +19,11 @@ Ordered R (x ∷ y ∷ l) = R x y × Ordered R (y ∷ l)
 
 abbrev pub Shorter : ℕ × ℕ → ℕ × ℕ → Type 0
 Shorter m n = m .0 < n .0
+
+-- The highest value number of the set: h is some key's value that no other is above, or none if there is no key.
+pub record HighestIn (d : PairSet) (h : Option ℕ) : Type 0 where
+  pub most : (k : List ℕ) (v : ℕ) → Has d k v → (w : ℕ) × (h ≡ some w) × (v ≤ w)
+  pub is : (w : ℕ) → h ≡ some w → (k : List ℕ) × Has d k w
 
 -- Prefixes: ms are length and value of exactly those prefixes of the labels that are keys, shortest first.
 pub record PrefixesIn (d : PairSet) (xs : List ℕ) (ms : List (ℕ × ℕ)) : Type 0 where

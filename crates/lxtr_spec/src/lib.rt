@@ -54,6 +54,12 @@ pub enum Fault {
     Unreachable(u32),
 }
 
+// The highest value number of the image's set, or none if it is empty.
+pub struct Highest {
+    pub refusal: u8,
+    pub value: Found,
+}
+
 // The exact match.
 pub struct Exact {
     pub refusal: u8,
