@@ -1,0 +1,107 @@
+// The pieces of a text: the one at a place, how many labels go out for it, and writing them.
+ghost use mathlib.Core.Path.{_≡_};
+ghost use mathlib.Core.List.{_++_};
+ghost use mathlib.Core.Bool.{false};
+ghost use Prim.Native.Nat.{_+_, _*_, _≤_, _<_};
+ghost use lib.ListN.{length, drop};
+ghost use Rattle.lxtr_spec.specs.Numbers.{beWords};
+ghost use Rattle.lxtr_spec.specs.Labels.{labelsOf};
+ghost use Rattle.lxtr_spec.specs.Answers.{found};
+ghost use Rattle.lxtr_laws.specs.Overlays.{over};
+ghost use Rattle.romaji_spec.specs.Typing.{hasEmptyKey};
+ghost use Rattle.romaji.specs.NextPieces.{Looked, NextIs, outBy};
+use crate::tables::text_bytes;
+use crate::texts::put_query;
+use crate::texts::text_length;
+use lxtr_bytes::labels::label_at;
+use lxtr_bytes::labels::label_count;
+use lxtr_bytes::numbers::put_be32;
+use lxtr_search::exact;
+use lxtr_search::longest;
+use lxtr_search::probe;
+use lxtr_spec::Found;
+use lxtr_spec::MAX_LABELS;
+use romaji_spec::MAX_KEPT;
+
+// The piece at a place: its length in bytes, and the value of the key, or none if a byte passes. Length 0: the text is kept from
+// this place on.
+pub struct Next {
+    pub length: usize,
+    pub value: Found,
+}
+
+// The longest key at the front of a query, or one label if there is none.
+fn longest_key(image: &[u8], query: &[u8]) -> Next
+    requires { ⌜ hasEmptyKey (now image) ≡ false ⌝ }
+    ensures { λ r. ⌜ Looked (now (image .entry)) (now (query .entry)) (r .length) (found (r .value)) ⌝ }
+{
+    let mut refusal: u8 = 0;
+    let part = longest(image, query, &mut refusal);
+    let Found::Is(v) = exact(image, part).value else {
+        return Next {
+            length: 1,
+            value: Found::Nothing,
+        };
+    };
+    Next {
+        length: part.len() / 4,
+        value: Found::Is(v),
+    }
+}
+
+// The piece at place `at` of the text. With `keeping`, a rest that could still grow is kept.
+pub fn next_piece(image: &[u8], kept: &[u8], typed: &[u8], at: usize, keeping: bool) -> Next
+    requires { ⌜ hasEmptyKey (now image) ≡ false ⌝ }
+    requires { ⌜ at < length (now kept ++ now typed) ⌝ }
+    ensures { λ r. ⌜ NextIs keeping (now (image .entry)) (drop at (now (kept .entry) ++ now (typed .entry))) (r .length) (found (r .value)) ⌝ }
+{
+    let left = text_length(kept, typed) - at;
+    let mut query = [0u8; 4 * MAX_LABELS];
+    if MAX_LABELS <= left {
+        put_query(kept, typed, at, MAX_LABELS, &mut query);
+        return longest_key(image, &query);
+    }
+    put_query(kept, typed, at, left, &mut query);
+    let end = 4 * left;
+    if keeping & probe(image, &query[..end]).longer {
+        return Next {
+            length: 0,
+            value: Found::Nothing,
+        };
+    }
+    longest_key(image, &query[..end])
+}
+
+// How many labels go out for a piece: for the text of a value, or for a byte that passes.
+pub fn out_count(kana: &[u8], value: Found) -> usize
+    ensures { λ r. ⌜ r ≡ length (outBy (now (kana .entry)) 0 (found value)) ⌝ }
+{
+    match value {
+        Found::Is(v) => label_count(text_bytes(kana, v)),
+        Found::Nothing => 1,
+    }
+}
+
+// Writes the labels of `text` into the room, starting at label `at`.
+fn put_text(text: &[u8], room: &mut [u8], at: usize)
+    requires { ⌜ 4 * (at + length (labelsOf (now text))) ≤ length (now room) ⌝ }
+    ensures { λ _. ⌜ now (room .exit) ≡ over (now (room .entry)) (4 * at) (beWords (labelsOf (now (text .entry)))) ⌝ }
+{
+    let count = label_count(text);
+    let mut i = 0;
+    while i < count {
+        put_be32(room, 4 * at + 4 * i, label_at(text, i));
+        i += 1;
+    }
+}
+
+// Writes the labels that go out for a piece into the room, starting at label `at`: the text of a value, or the byte x.
+pub fn put_piece(kana: &[u8], value: Found, x: u8, room: &mut [u8], at: usize)
+    requires { ⌜ 4 * (at + length (outBy (now kana) x (found value))) ≤ length (now room) ⌝ }
+    ensures { λ _. ⌜ now (room .exit) ≡ over (now (room .entry)) (4 * at) (beWords (outBy (now (kana .entry)) x (found value))) ⌝ }
+{
+    match value {
+        Found::Is(v) => put_text(text_bytes(kana, v), room, at),
+        Found::Nothing => put_be32(room, 4 * at, x as u32),
+    }
+}

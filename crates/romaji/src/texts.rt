@@ -1,0 +1,59 @@
+// The text that is converted: the bytes kept, then those typed now. It is never put together; its bytes are read by their places.
+ghost use mathlib.Core.Path.{_≡_};
+ghost use mathlib.Core.List.{_++_};
+ghost use Prim.Native.Nat.{_+_, _*_, _≤_, _<_};
+ghost use lib.ListN.{length, getD, take, drop};
+ghost use Rattle.lxtr_spec.specs.Numbers.{beWords};
+ghost use Rattle.lxtr_laws.specs.Overlays.{over};
+ghost use Rattle.romaji_spec.specs.Pieces.{maxKept};
+ghost use Rattle.romaji_spec.specs.Typing.{stateOf};
+use lxtr_bytes::numbers::put_be32;
+use romaji_spec::MAX_KEPT;
+use romaji_spec::State;
+
+// The length of the text.
+pub fn text_length(kept: &[u8], typed: &[u8]) -> usize
+    ensures { λ r. ⌜ r ≡ length (now (kept .entry) ++ now (typed .entry)) ⌝ }
+{
+    kept.len() + typed.len()
+}
+
+// The byte at place i.
+pub fn byte_of(kept: &[u8], typed: &[u8], i: usize) -> u8
+    requires { ⌜ i < length (now kept ++ now typed) ⌝ }
+    ensures { λ r. ⌜ r ≡ getD (now (kept .entry) ++ now (typed .entry)) i 0 ⌝ }
+{
+    if i < kept.len() {
+        return kept[i];
+    }
+    typed[i - kept.len()]
+}
+
+// Writes `count` bytes of the text, starting at place `at`, to the front of `query`, each as a label.
+pub fn put_query(kept: &[u8], typed: &[u8], at: usize, count: usize, query: &mut [u8])
+    requires { ⌜ at + count ≤ length (now kept ++ now typed) ⌝ }
+    requires { ⌜ 4 * count ≤ length (now query) ⌝ }
+    ensures { λ _. ⌜ now (query .exit) ≡ over (now (query .entry)) 0 (beWords (take count (drop at (now (kept .entry) ++ now (typed .entry))))) ⌝ }
+{
+    let mut i = 0;
+    while i < count {
+        put_be32(query, 4 * i, byte_of(kept, typed, at + i) as u32);
+        i += 1;
+    }
+}
+
+// The state that keeps the text from place `at` on.
+pub fn rest_kept(kept: &[u8], typed: &[u8], at: usize) -> State
+    requires { ⌜ at ≤ length (now kept ++ now typed) ⌝ }
+    requires { ⌜ length (drop at (now kept ++ now typed)) ≤ maxKept ⌝ }
+    ensures { λ r. ⌜ r ≡ stateOf (drop at (now (kept .entry) ++ now (typed .entry))) ⌝ }
+{
+    let count = text_length(kept, typed) - at;
+    let mut bytes = [0u8; MAX_KEPT];
+    let mut i = 0;
+    while i < count {
+        bytes[i] = byte_of(kept, typed, at + i);
+        i += 1;
+    }
+    State { count, kept: bytes }
+}

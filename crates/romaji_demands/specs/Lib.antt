@@ -1,0 +1,3 @@
+-- The demand on romaji typing, its examples, and what it rules out; the proofs are in Laws/.
+pub mod Cuts
+pub mod Demand
