@@ -1,5 +1,5 @@
 // Checks LXTR images: whether given bytes are an image, and of how many pairs. Each of rules 9 to 12 has a crate of its own. Any
-// caller may use `check`; `image_refusal` and `body_refusal` are for the crates that use this one.
+// caller may use `check`; `image_refusal`, `body_refusal` and `is_end` are for the crates that use this one.
 ghost use mathlib.Core.Path.{_≡_};
 ghost use Prim.Native.Nat.{_<_};
 ghost use Rattle.lxtr_spec.specs.Image.{slotCount};
@@ -51,7 +51,7 @@ pub fn image_refusal(image: &[u8]) -> u8
 }
 
 // Whether slot s is a key's end.
-fn is_end(image: &[u8], s: u32) -> bool
+pub fn is_end(image: &[u8], s: u32) -> bool
     requires { ⌜ Whole (now image) ⌝ }
     requires { ⌜ s < slotCount (now image) ⌝ }
     ensures { λ r. ⌜ r ≡ isEnd (now (image .entry)) s ⌝ }

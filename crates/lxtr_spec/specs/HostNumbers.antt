@@ -8,6 +8,7 @@ use Rattle.lxtr_spec.specs.Ranges.{concatFrom}
 use Rattle.lxtr_spec.specs.Labels.{lengthCount}
 use Rattle.lxtr_spec.specs.Refusals.{unlessRefused, checkOf}
 use Rattle.lxtr_spec.specs.FaultPlaces.{faultOf}
+use Rattle.lxtr_spec.specs.HighestValues.{highestOf}
 use Rattle.lxtr_spec.specs.Searches.{searchRefusal, exactOf, prefixesOf, longestLength, probeOf}
 use Rattle.lxtr_spec.specs.Completions.{completionOf}
 use Rattle.lxtr_spec.specs.Builds.{buildOf}
@@ -60,6 +61,10 @@ faultNumbered (Unreachable s) = placeNumber 12 0 s
 
 unfoldable pub faultNumber : List ℕ → ℕ
 faultNumber b = faultNumbered (faultOf b)
+
+-- The highest value, or none.
+unfoldable pub highestNumber : List ℕ → ℕ
+highestNumber b = valueNumbered (highestOf b .refusal) false (highestOf b .value)
 
 -- Prefixes: the count; in lent words, length and value alternately, shortest first.
 pub record HostPrefixes : Type 0 where

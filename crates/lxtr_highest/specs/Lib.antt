@@ -1,0 +1,2 @@
+-- What the loop over the slots keeps, and the returns.
+pub mod Bounds
