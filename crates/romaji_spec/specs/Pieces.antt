@@ -65,16 +65,19 @@ onlyRest r = record { pieces = []; rest = r }
 unfoldable pub withPiece : Piece → Cutting → Cutting
 withPiece p c = record { pieces = p ∷ c .pieces; rest = c .rest }
 
--- A rest that could still grow is kept back until more comes (`keeping`) or the clerk finishes: the cutting of the text after its
--- first k bytes, which belong to the piece before.
+-- A rest that could still grow is kept back until more comes (`keeping`) or the clerk finishes.
+unfoldable pub keptOr : Bool → List ℕ → Cutting → Cutting
+keptOr true r later = onlyRest r
+keptOr false r later = later
+
+-- the cutting of a text after its first k bytes, which belong to the piece before
 unfoldable pub cutAfter : Bool → List ℕ → ℕ → List ℕ → Cutting
 cutAfter keeping b k [] = onlyRest []
 cutAfter keeping b (suc k) (x ∷ r) = cutAfter keeping b k r
 cutAfter keeping b zero (x ∷ r) =
-    elim (keeping && couldGrow b (x ∷ r)) [
-      | true ↦ onlyRest (x ∷ r)
-      | false ↦ let p = pieceAt b (x ∷ r) in withPiece p (cutAfter keeping b (length (pieceText p) - 1) r)
-    ]
+    let p = pieceAt b (x ∷ r) in
+    let later = withPiece p (cutAfter keeping b (length (pieceText p) - 1) r) in
+    keptOr (keeping && couldGrow b (x ∷ r)) (x ∷ r) later
 
 -- the cutting of the whole text
 unfoldable pub cut : Bool → List ℕ → List ℕ → Cutting

@@ -1,0 +1,3 @@
+-- Facts about the definitions of romaji typing.
+pub mod Steps
+pub mod TextPlaces
