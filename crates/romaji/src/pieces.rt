@@ -1,15 +1,16 @@
 // The pieces of a text: the one at a place, how many labels go out for it, and writing them.
 ghost use mathlib.Core.Path.{_≡_};
 ghost use mathlib.Core.List.{_++_};
-ghost use mathlib.Core.Bool.{false};
-ghost use Prim.Native.Nat.{_+_, _*_, _≤_, _<_};
+ghost use mathlib.Core.Bool.{false, _&&_};
+ghost use Prim.Native.Nat.{_+_, _*_, _≤_, _<_, min};
 ghost use lib.ListN.{length, drop};
 ghost use Rattle.lxtr_spec.specs.Numbers.{beWords};
-ghost use Rattle.lxtr_spec.specs.Labels.{labelsOf};
+ghost use Rattle.lxtr_spec.specs.Labels.{maxLabels, labelsOf};
+ghost use Rattle.lxtr_spec.specs.Searches.{probeOf};
 ghost use Rattle.lxtr_spec.specs.Answers.{found};
 ghost use Rattle.lxtr_laws.specs.Overlays.{over};
 ghost use Rattle.romaji_spec.specs.Typing.{hasEmptyKey};
-ghost use Rattle.romaji.specs.NextPieces.{Looked, NextIs, outBy};
+ghost use Rattle.romaji.specs.NextPieces.{Looked, FrontIs, NextIs, outBy};
 use crate::tables::text_bytes;
 use crate::texts::put_query;
 use crate::texts::text_length;
@@ -30,6 +31,16 @@ pub struct Next {
     pub value: Found,
 }
 
+// Whether a query is kept back: with `keeping`, if it is a proper front part of a key.
+fn waits(image: &[u8], query: &[u8], keeping: bool) -> bool
+    ensures { λ r. ⌜ r ≡ (keeping && probeOf (now (image .entry)) (now (query .entry)) .longer) ⌝ }
+{
+    if !keeping {
+        return false;
+    }
+    probe(image, query).longer
+}
+
 // The longest key at the front of a query, or one label if there is none.
 fn longest_key(image: &[u8], query: &[u8]) -> Next
     requires { ⌜ hasEmptyKey (now image) ≡ false ⌝ }
@@ -37,7 +48,9 @@ fn longest_key(image: &[u8], query: &[u8]) -> Next
 {
     let mut refusal: u8 = 0;
     let part = longest(image, query, &mut refusal);
-    let Found::Is(v) = exact(image, part).value else {
+    let answer = exact(image, part);
+    let value = answer.value;
+    let Found::Is(v) = value else {
         return Next {
             length: 1,
             value: Found::Nothing,
@@ -49,27 +62,39 @@ fn longest_key(image: &[u8], query: &[u8]) -> Next
     }
 }
 
-// The piece at place `at` of the text. With `keeping`, a rest that could still grow is kept.
-pub fn next_piece(image: &[u8], kept: &[u8], typed: &[u8], at: usize, keeping: bool) -> Next
+// The piece at the front of a query.
+fn front_piece(image: &[u8], query: &[u8], keeping: bool) -> Next
     requires { ⌜ hasEmptyKey (now image) ≡ false ⌝ }
-    requires { ⌜ at < length (now kept ++ now typed) ⌝ }
-    ensures { λ r. ⌜ NextIs keeping (now (image .entry)) (drop at (now (kept .entry) ++ now (typed .entry))) (r .length) (found (r .value)) ⌝ }
+    ensures { λ r. ⌜ FrontIs keeping (now (image .entry)) (now (query .entry)) (r .length) (found (r .value)) ⌝ }
 {
-    let left = text_length(kept, typed) - at;
-    let mut query = [0u8; 4 * MAX_LABELS];
-    if MAX_LABELS <= left {
-        put_query(kept, typed, at, MAX_LABELS, &mut query);
-        return longest_key(image, &query);
-    }
-    put_query(kept, typed, at, left, &mut query);
-    let end = 4 * left;
-    if keeping & probe(image, &query[..end]).longer {
+    if waits(image, query, keeping) {
         return Next {
             length: 0,
             value: Found::Nothing,
         };
     }
-    longest_key(image, &query[..end])
+    longest_key(image, query)
+}
+
+// How many bytes are looked at, of those that are left: as many as a key may have labels.
+fn looked_at(left: usize) -> usize
+    ensures { λ r. ⌜ r ≡ min maxLabels left ⌝ }
+{
+    if left < MAX_LABELS { left } else { MAX_LABELS }
+}
+
+// The piece at place `at` of the text. With `keeping`, a rest that could still grow is kept.
+pub fn next_piece(image: &[u8], kept: &[u8], typed: &[u8], at: usize, keeping: bool) -> Next
+    requires { ⌜ hasEmptyKey (now image) ≡ false ⌝ }
+    requires { ⌜ at < length (now kept) + length (now typed) ⌝ }
+    ensures { λ r. ⌜ NextIs keeping (now (image .entry)) (drop at (now (kept .entry) ++ now (typed .entry))) (r .length) (found (r .value)) ⌝ }
+{
+    let left = text_length(kept, typed) - at;
+    let count = looked_at(left);
+    let mut query = [0u8; 4 * MAX_LABELS];
+    put_query(kept, typed, at, count, &mut query);
+    let end = 4 * count;
+    front_piece(image, &query[..end], keeping & (left <= MAX_KEPT))
 }
 
 // How many labels go out for a piece: for the text of a value, or for a byte that passes.
@@ -95,13 +120,18 @@ fn put_text(text: &[u8], room: &mut [u8], at: usize)
     }
 }
 
-// Writes the labels that go out for a piece into the room, starting at label `at`: the text of a value, or the byte x.
-pub fn put_piece(kana: &[u8], value: Found, x: u8, room: &mut [u8], at: usize)
+// Writes the labels that go out for a piece into the room, starting at label `at`: the text of a value, or the byte x. Returns
+// the place after them.
+pub fn put_piece(kana: &[u8], value: Found, x: u8, room: &mut [u8], at: usize) -> usize
     requires { ⌜ 4 * (at + length (outBy (now kana) x (found value))) ≤ length (now room) ⌝ }
+    ensures { λ r. ⌜ r ≡ at + length (outBy (now (kana .entry)) x (found value)) ⌝ }
     ensures { λ _. ⌜ now (room .exit) ≡ over (now (room .entry)) (4 * at) (beWords (outBy (now (kana .entry)) x (found value))) ⌝ }
 {
-    match value {
-        Found::Is(v) => put_text(text_bytes(kana, v), room, at),
-        Found::Nothing => put_be32(room, 4 * at, x as u32),
-    }
+    let Found::Is(v) = value else {
+        put_be32(room, 4 * at, x as u32);
+        return at + 1;
+    };
+    let text = text_bytes(kana, v);
+    put_text(text, room, at);
+    at + label_count(text)
 }

@@ -1,19 +1,25 @@
 // The kana table: where the text of a value lies, and whether the texts of all values of an image are whole.
 ghost use mathlib.Core.Path.{_≡_};
-ghost use Prim.Native.Nat.{_<_};
+ghost use Prim.Native.Nat.{_*_, _^_, _<_, min};
 ghost use lib.ListN.{length};
 ghost use Rattle.lxtr_spec.specs.Answers.{found};
 ghost use Rattle.romaji_spec.specs.KanaTables.{textEnd, textAt, textBytes, textCut, tableShort};
-ghost use Rattle.romaji.specs.TablePlaces.{within};
 use lxtr_spec::Found;
+
+// The number of bytes that a number of labels takes.
+fn bytes_of(labels: u8) -> usize
+    ensures { λ r. ⌜ (r ≡ 4 * labels) × (r < 2 ^ 10) ⌝ }
+{
+    4 * labels as usize
+}
 
 // Where the text ends whose length byte is at `at`, or the table's length if the table ends before that.
 fn text_end(kana: &[u8], at: usize) -> usize
     requires { ⌜ at < length (now kana) ⌝ }
-    ensures { λ r. ⌜ r ≡ within (now (kana .entry)) (textEnd (now (kana .entry)) at) ⌝ }
+    ensures { λ r. ⌜ r ≡ min (textEnd (now (kana .entry)) at) (length (now (kana .entry))) ⌝ }
 {
     let start = at + 1;
-    let size = 4 * kana[at] as usize;
+    let size = bytes_of(kana[at]);
     if kana.len() - start < size {
         return kana.len();
     }
@@ -22,7 +28,7 @@ fn text_end(kana: &[u8], at: usize) -> usize
 
 // Where the text of value v begins, or the table's length if the table ends before that.
 fn text_at(kana: &[u8], v: u32) -> usize
-    ensures { λ r. ⌜ r ≡ within (now (kana .entry)) (textAt (now (kana .entry)) v) ⌝ }
+    ensures { λ r. ⌜ r ≡ min (textAt (now (kana .entry)) v) (length (now (kana .entry))) ⌝ }
 {
     let mut at = 0;
     let mut i: u32 = 0;
@@ -57,7 +63,7 @@ fn text_cut(kana: &[u8], v: u32) -> bool
     if kana.len() <= at {
         return true;
     }
-    kana.len() - (at + 1) < 4 * kana[at] as usize
+    kana.len() - (at + 1) < bytes_of(kana[at])
 }
 
 // Whether the table ends before the text of the highest value of an image, if it has one, is whole.

@@ -3,7 +3,7 @@ ghost use mathlib.Core.Path.{_≡_};
 ghost use mathlib.Core.List.{_++_};
 ghost use Prim.Native.Nat.{_+_, _*_, _≤_, _<_};
 ghost use lib.ListN.{length, getD, take, drop};
-ghost use Rattle.lxtr_spec.specs.Numbers.{beWords};
+ghost use Rattle.lxtr_spec.specs.Numbers.{beBytes, beWords};
 ghost use Rattle.lxtr_laws.specs.Overlays.{over};
 ghost use Rattle.romaji_spec.specs.Pieces.{maxKept};
 ghost use Rattle.romaji_spec.specs.Typing.{stateOf};
@@ -13,14 +13,14 @@ use romaji_spec::State;
 
 // The length of the text.
 pub fn text_length(kept: &[u8], typed: &[u8]) -> usize
-    ensures { λ r. ⌜ r ≡ length (now (kept .entry) ++ now (typed .entry)) ⌝ }
+    ensures { λ r. ⌜ r ≡ length (now (kept .entry)) + length (now (typed .entry)) ⌝ }
 {
     kept.len() + typed.len()
 }
 
 // The byte at place i.
 pub fn byte_of(kept: &[u8], typed: &[u8], i: usize) -> u8
-    requires { ⌜ i < length (now kept ++ now typed) ⌝ }
+    requires { ⌜ i < length (now kept) + length (now typed) ⌝ }
     ensures { λ r. ⌜ r ≡ getD (now (kept .entry) ++ now (typed .entry)) i 0 ⌝ }
 {
     if i < kept.len() {
@@ -29,23 +29,32 @@ pub fn byte_of(kept: &[u8], typed: &[u8], i: usize) -> u8
     typed[i - kept.len()]
 }
 
+// Writes the byte at place `at` of the text as label i of the query.
+fn put_label(kept: &[u8], typed: &[u8], at: usize, query: &mut [u8], i: usize)
+    requires { ⌜ at < length (now kept) + length (now typed) ⌝ }
+    requires { ⌜ 4 * i + 4 ≤ length (now query) ⌝ }
+    ensures { λ _. ⌜ now (query .exit) ≡ over (now (query .entry)) (4 * i) (beBytes (getD (now (kept .entry) ++ now (typed .entry)) at 0)) ⌝ }
+{
+    put_be32(query, 4 * i, byte_of(kept, typed, at) as u32);
+}
+
 // Writes `count` bytes of the text, starting at place `at`, to the front of `query`, each as a label.
 pub fn put_query(kept: &[u8], typed: &[u8], at: usize, count: usize, query: &mut [u8])
-    requires { ⌜ at + count ≤ length (now kept ++ now typed) ⌝ }
+    requires { ⌜ at + count ≤ length (now kept) + length (now typed) ⌝ }
     requires { ⌜ 4 * count ≤ length (now query) ⌝ }
     ensures { λ _. ⌜ now (query .exit) ≡ over (now (query .entry)) 0 (beWords (take count (drop at (now (kept .entry) ++ now (typed .entry))))) ⌝ }
 {
     let mut i = 0;
     while i < count {
-        put_be32(query, 4 * i, byte_of(kept, typed, at + i) as u32);
+        put_label(kept, typed, at + i, query, i);
         i += 1;
     }
 }
 
 // The state that keeps the text from place `at` on.
 pub fn rest_kept(kept: &[u8], typed: &[u8], at: usize) -> State
-    requires { ⌜ at ≤ length (now kept ++ now typed) ⌝ }
-    requires { ⌜ length (drop at (now kept ++ now typed)) ≤ maxKept ⌝ }
+    requires { ⌜ at ≤ length (now kept) + length (now typed) ⌝ }
+    requires { ⌜ length (now kept) + length (now typed) ≤ at + maxKept ⌝ }
     ensures { λ r. ⌜ r ≡ stateOf (drop at (now (kept .entry) ++ now (typed .entry))) ⌝ }
 {
     let count = text_length(kept, typed) - at;
@@ -55,5 +64,8 @@ pub fn rest_kept(kept: &[u8], typed: &[u8], at: usize) -> State
         bytes[i] = byte_of(kept, typed, at + i);
         i += 1;
     }
-    State { count, kept: bytes }
+    State {
+        count: count as u8,
+        kept: bytes,
+    }
 }

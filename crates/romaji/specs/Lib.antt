@@ -1,0 +1,5 @@
+-- Laws of the code of romaji typing.
+pub mod Tables
+pub mod Texts
+pub mod NextPieces
+pub mod Progress
