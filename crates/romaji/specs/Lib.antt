@@ -3,3 +3,5 @@ pub mod Tables
 pub mod Texts
 pub mod NextPieces
 pub mod Progress
+pub mod Counting
+pub mod Writing

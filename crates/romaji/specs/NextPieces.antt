@@ -1,14 +1,12 @@
 -- The piece at a place of the text, as the code finds it: by a query of the first bytes from there on.
 -- No key is longer than the bytes looked at, and a text of which more is left than can be kept is not kept.
-use Prim.Native.Nat.{ℕ, zero, suc, _+_, _-_, _*_, _/_, _≤_, _<_, min}
+use Prim.Native.Nat.{ℕ, _+_, _-_, _*_, _/_, _≤_, _<_, min}
 use native.Mathlib.Omega.{arith}
-use native.Mathlib.Nat.{zero-add}
 use mathlib.Core.Path.{_≡_, refl, sym, ap, _∙_}
-use mathlib.Core.Logic.{_≢_}
 use mathlib.Core.Bool.{Bool, true, false, _&&_, not, true≢false}
 use mathlib.Core.List.{List, [], _∷_, _++_}
 use mathlib.Core.Option.{Option, some, none}
-use lib.ListN.{length, take, drop, getD, replicate, length-take, length-append, length-drop}
+use lib.ListN.{length, take, drop, getD, length-take, length-append, length-drop}
 use lib.Seq.{take-all, take-append-le, length-take-le}
 use lib.Dec.{leb}
 use mir.Val.{Fits}
@@ -26,7 +24,7 @@ use Rattle.lxtr_laws.specs.ByteOrders.{big, words-size, words-one}
 use Rattle.lxtr_laws.specs.Overlays.{over, over-length, WordsIn, words-start, words-next}
 use Rattle.lxtr_search.specs.Kept.{longest-bytes}
 use Rattle.romaji_spec.specs.KanaTables.{textBytes, kanaOf}
-use Rattle.romaji_spec.specs.Pieces.{maxKept, couldGrow, key, byte, matched, matchedValue, pieceBy, pieceAt, pieceText, pieceOut}
+use Rattle.romaji_spec.specs.Pieces.{maxKept, couldGrow, matched, matchedValue, pieceBy, pieceAt, pieceText, pieceOut}
 use Rattle.romaji_spec.specs.Typing.{isValue, hasEmptyKey}
 use Rattle.romaji_laws.specs.Steps.{Keeps, GoesOn}
 use Rattle.romaji.specs.Tables.{take-least}

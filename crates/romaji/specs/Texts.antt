@@ -2,16 +2,15 @@
 -- the other; both loops copy the part of the text that starts at a place.
 use Prim.Native.Nat.{ℕ, zero, suc, _+_, _-_, _*_, _≤_, _<_, _^_}
 use native.Mathlib.Omega.{arith}
-use native.Mathlib.Nat.{zero-add, le-refl}
+use native.Mathlib.Nat.{zero-add}
 use native.Mathlib.Numerals.{add-one}
 use mathlib.Core.Path.{_≡_, refl, sym, ap, _∙_}
-use mathlib.Core.List.{List, [], _++_}
+use mathlib.Core.List.{List, _++_}
 use lib.ListN.{length, take, drop, getD, set, replicate, length-append, length-drop, length-replicate, List·getD-append}
-use lib.Seq.{length-take-le, getD-take, getD-drop, getD-append-add, take-all, take-length, paste, paste-zero, paste-suc}
+use lib.Seq.{length-take-le, getD-take, getD-drop, getD-append-add, take-all, paste, paste-zero, paste-suc}
 use Rattle.lxtr_spec.specs.Numbers.{beBytes, beWords}
-use Rattle.lxtr_spec.specs.Labels.{maxLabels}
-use Rattle.lxtr_laws.specs.ByteOrders.{big, words-size}
-use Rattle.lxtr_laws.specs.Overlays.{over, over-length, WordsIn, words-start, words-next, words-end}
+use Rattle.lxtr_laws.specs.ByteOrders.{big}
+use Rattle.lxtr_laws.specs.Overlays.{over, over-length, WordsIn, words-start, words-next}
 use Rattle.lxtr_laws.specs.Limit.{length-fits-byte}
 use Rattle.romaji_spec.specs.Pieces.{maxKept}
 use Rattle.romaji_spec.specs.Typing.{stateOf}

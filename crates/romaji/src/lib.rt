@@ -1,4 +1,184 @@
-// tmp
+// Romaji typing: typed bytes go out as kana, by an image whose keys are romaji and a table of kana for its values. Nothing is
+// assumed about image, table, state, text and room. Image and searches are used by the contracts of the library alone.
 mod tables; // the texts of the kana table
-mod texts;
-mod pieces;
+mod texts; // the text: what was kept, then what is typed
+mod pieces; // the piece at a place of the text
+
+ghost use mathlib.Core.Path.{_≡_};
+ghost use mathlib.Core.List.{[], _++_};
+ghost use mathlib.Core.Bool.{false};
+ghost use Prim.Native.Nat.{_*_, _≤_, min};
+ghost use lib.ListN.{length};
+ghost use lib.Dec.{leb};
+ghost use Rattle.romaji_spec.specs.Pieces.{maxKept};
+ghost use Rattle.romaji_spec.specs.Typing.{hasEmptyKey, tableRefusal, convert, typeOf, finishOf};
+ghost use Rattle.romaji.specs.Progress.{outOf};
+ghost use Rattle.romaji.specs.Writing.{Converts};
+use crate::pieces::next_piece;
+use crate::pieces::out_count;
+use crate::pieces::put_piece;
+use crate::tables::table_short;
+use crate::texts::byte_of;
+use crate::texts::rest_kept;
+use crate::texts::text_length;
+use lxtr_highest::highest;
+use lxtr_search::exact;
+use lxtr_spec::Found;
+use romaji_spec::EMPTY_KEY;
+use romaji_spec::MAX_KEPT;
+use romaji_spec::NO_ROOM;
+use romaji_spec::State;
+use romaji_spec::TABLE_TOO_SHORT;
+use romaji_spec::Typed;
+
+// Whether the image has the empty key.
+fn has_empty_key(image: &[u8]) -> bool
+    ensures { λ r. ⌜ r ≡ hasEmptyKey (now (image .entry)) ⌝ }
+{
+    let answer = exact(image, &image[..0]);
+    let value = answer.value;
+    match value {
+        Found::Is(_) => true,
+        Found::Nothing => false,
+    }
+}
+
+// The first of refusals 1 to 12, 24 and 25 that holds, or 0.
+fn table_refusal(image: &[u8], kana: &[u8]) -> u8
+    ensures { λ r. ⌜ r ≡ tableRefusal (now (image .entry)) (now (kana .entry)) ⌝ }
+{
+    let top = highest(image);
+    if top.refusal != 0 {
+        return top.refusal;
+    }
+    let value = top.value;
+    if table_short(kana, value) {
+        return TABLE_TOO_SHORT;
+    }
+    if has_empty_key(image) {
+        return EMPTY_KEY;
+    }
+    0
+}
+
+// Whether at most `room` labels go out for the text.
+fn fits(image: &[u8], kana: &[u8], kept: &[u8], typed: &[u8], keeping: bool, room: usize) -> bool
+    requires { ⌜ hasEmptyKey (now image) ≡ false ⌝ }
+    ensures { λ r. ⌜ r ≡ leb (length (outOf keeping (now (image .entry)) (now (kana .entry)) (now (kept .entry) ++ now (typed .entry)))) room ⌝ }
+{
+    let length = text_length(kept, typed);
+    let mut left = room;
+    let mut at = 0;
+    while at < length {
+        let next = next_piece(image, kept, typed, at, keeping);
+        if next.length == 0 {
+            break;
+        }
+        let value = next.value;
+        let count = out_count(kana, value);
+        if left < count {
+            return false;
+        }
+        left -= count;
+        at += next.length;
+    }
+    true
+}
+
+// How far the text was converted: to place `at`, with `count` labels.
+struct Converted {
+    at: usize,
+    count: usize,
+}
+
+// Writes the labels that go out for the text to the room's front.
+fn put_pieces(
+    image: &[u8],
+    kana: &[u8],
+    kept: &[u8],
+    typed: &[u8],
+    keeping: bool,
+    room: &mut [u8],
+) -> Converted
+    requires { ⌜ hasEmptyKey (now image) ≡ false ⌝ }
+    requires { ⌜ 4 * length (outOf keeping (now image) (now kana) (now kept ++ now typed)) ≤ length (now room) ⌝ }
+    ensures { λ r. ⌜ Converts keeping (now (image .entry)) (now (kana .entry)) (now (kept .entry) ++ now (typed .entry)) (now (room .entry)) (r .at) (r .count) (now (room .exit)) ⌝ }
+{
+    let length = text_length(kept, typed);
+    let mut at = 0;
+    let mut count = 0;
+    while at < length {
+        let next = next_piece(image, kept, typed, at, keeping);
+        if next.length == 0 {
+            break;
+        }
+        let value = next.value;
+        count = put_piece(kana, value, byte_of(kept, typed, at), room, count);
+        at += next.length;
+    }
+    Converted { at, count }
+}
+
+// How many bytes a state keeps: as many as it says, but not more than it has.
+fn kept_count(count: u8) -> usize
+    ensures { λ r. ⌜ r ≡ min count maxKept ⌝ }
+{
+    let bytes = count as usize;
+    if bytes < MAX_KEPT { bytes } else { MAX_KEPT }
+}
+
+// Converts what the state keeps and what is typed.
+fn convert(
+    image: &[u8],
+    kana: &[u8],
+    state: State,
+    typed: &[u8],
+    room: &mut [u8],
+    keeping: bool,
+) -> Typed
+    ensures { λ r. ⌜ record { answer = r; room = now (room .exit) } ≡ convert keeping (now (image .entry)) (now (kana .entry)) state (now (typed .entry)) (now (room .entry)) ⌝ }
+{
+    let refusal = table_refusal(image, kana);
+    if refusal != 0 {
+        return Typed {
+            refusal,
+            count: 0,
+            state,
+        };
+    }
+    let bytes = state.kept;
+    let count = kept_count(state.count);
+    if !fits(image, kana, &bytes[..count], typed, keeping, room.len() / 4) {
+        return Typed {
+            refusal: NO_ROOM,
+            count: 0,
+            state,
+        };
+    }
+    let done = put_pieces(image, kana, &bytes[..count], typed, keeping, room);
+    Typed {
+        refusal: 0,
+        count: done.count,
+        state: rest_kept(&bytes[..count], typed, done.at),
+    }
+}
+
+// Types bytes: the kana of what is kept and typed goes out, from the room's front. A rest that could still grow is kept.
+pub fn type_bytes(
+    image: &[u8],
+    kana: &[u8],
+    state: State,
+    typed: &[u8],
+    room: &mut [u8],
+) -> Typed
+    ensures { λ r. ⌜ record { answer = r; room = now (room .exit) } ≡ typeOf (now (image .entry)) (now (kana .entry)) state (now (typed .entry)) (now (room .entry)) ⌝ }
+{
+    convert(image, kana, state, typed, room, true)
+}
+
+// Finishes: the kana of what is kept goes out, and nothing is kept.
+pub fn finish(image: &[u8], kana: &[u8], state: State, room: &mut [u8]) -> Typed
+    ensures { λ r. ⌜ record { answer = r; room = now (room .exit) } ≡ finishOf (now (image .entry)) (now (kana .entry)) state (now (room .entry)) ⌝ }
+{
+    convert(image, kana, state, &kana[..0], room, false)
+}
