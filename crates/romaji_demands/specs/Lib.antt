@@ -1,3 +1,4 @@
 -- The demand on romaji typing, its examples, and what it rules out; the proofs are in Laws/.
 pub mod Cuts
 pub mod Demand
+pub mod Laws

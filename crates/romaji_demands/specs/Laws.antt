@@ -1,0 +1,5 @@
+-- The proofs of the demand, one idea in each file.
+-- What a set of pairs says of texts, without an image.
+pub mod FrontParts
+pub mod Pieces
+pub mod Cuts
