@@ -3,3 +3,5 @@
 pub mod FrontParts
 pub mod Pieces
 pub mod Cuts
+-- What the searches find over an image.
+pub mod Found
