@@ -5,3 +5,4 @@ pub mod Pieces
 pub mod Cuts
 -- What the searches find over an image.
 pub mod Found
+pub mod CutTexts
