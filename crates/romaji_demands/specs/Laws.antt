@@ -6,3 +6,5 @@ pub mod Cuts
 -- What the searches find over an image.
 pub mod Found
 pub mod CutTexts
+-- What is refused.
+pub mod TableRefusals
