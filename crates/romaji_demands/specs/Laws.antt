@@ -8,3 +8,5 @@ pub mod Found
 pub mod CutTexts
 -- What is refused.
 pub mod TableRefusals
+-- The demand.
+pub mod Typing
