@@ -10,3 +10,5 @@ pub mod CutTexts
 pub mod TableRefusals
 -- The demand.
 pub mod Typing
+-- What two calls answer.
+pub mod TwoCalls
