@@ -12,3 +12,4 @@ pub mod TableRefusals
 pub mod Typing
 -- What two calls answer.
 pub mod TwoCalls
+pub mod Parts

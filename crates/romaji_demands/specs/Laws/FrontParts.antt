@@ -5,7 +5,7 @@ use native.Mathlib.Omega.{arith}
 use mathlib.Core.Path.{_≡_, refl, sym, ap, _∙_}
 use mathlib.Core.Logic.{_⊎_, inl, inr, ⊎-elim}
 use mathlib.Core.List.{List, [], _∷_, _++_, head-eq-of-cons-eq, tail-eq-of-cons-eq, append-cancel-left}
-use lib.ListN.{length, take, drop, getD, length-take, length-drop, length-append}
+use lib.ListN.{length, take, drop, getD, length-take, length-drop, length-append, List·getD-append}
 use lib.Seq.{take-append-seam, getD-take, getD-drop, getD-append-add}
 use Rattle.romaji_demands.specs.Demand.{Bytes}
 
@@ -37,3 +37,6 @@ bytes-drop n t small i h = rw (getD-drop n t i 0) (small (n + i) (omega (arith, 
 
 pub bytes-after : (a t : List ℕ) → Bytes (a ++ t) → Bytes t
 bytes-after a t small i h = rw (getD-append-add a t i 0) at (small (length a + i) (omega (arith, length-append a t)))
+
+pub bytes-before : (a t : List ℕ) → Bytes (a ++ t) → Bytes a
+bytes-before a t small i h = rw (List·getD-append a t 0 i h) at (small i (omega (arith, length-append a t)))
