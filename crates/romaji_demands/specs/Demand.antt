@@ -6,13 +6,12 @@ use mathlib.Core.Logic.{_≢_, _⊎_}
 use mathlib.Core.List.{List, [], _++_}
 use mathlib.Core.Option.{none}
 use lib.ListN.{length, take, drop, getD}
-use Rattle.lxtr_spec.specs.Numbers.{beWords}
 use Rattle.lxtr_spec.specs.Refusals.{imageRefusal}
 use Rattle.lxtr_spec.specs.Sets.{PairSet, Has, ImageOf}
 use Rattle.lxtr_spec.specs.Meaning.{Longer}
 use Rattle.romaji_spec.specs.KanaTables.{textAt}
 use Rattle.romaji_spec.specs.Pieces.{Piece, outgoing}
-use Rattle.romaji_spec.specs.Typing.{keptIn, stateOf, TypingAnswer, refusedBy, wentOut, typeOf, finishOf}
+use Rattle.romaji_spec.specs.Typing.{keptIn, TypingAnswer, refusedBy, wentOut, typeOf, finishOf}
 use Rattle.romaji_spec.specs.declared.State.{State}
 use Rattle.romaji_demands.specs.Cuts.{CutInto, OneCut, TypedAs, Never, FinishedAs}
 

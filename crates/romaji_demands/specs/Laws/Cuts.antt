@@ -1,17 +1,17 @@
 -- A cutting, one piece at a time: by its first piece and the cutting of what comes after it. So there is one only, and the cuttings of
 -- a text and of the rest with what follows make one cutting of the whole.
-use Prim.Native.Nat.{ℕ, _+_, _≤_}
+use Prim.Native.Nat.{ℕ}
 use native.Mathlib.Omega.{arith}
 use mathlib.Core.Path.{_≡_, refl, sym, ap, ap₂, _∙_, subst₂}
-use mathlib.Core.Logic.{_⊎_, inl, inr, ⊎-elim}
-use mathlib.Core.List.{List, [], _∷_, _++_, append-assoc, append-nil, tail-eq-of-cons-eq, head-eq-of-cons-eq, nil≢cons}
-use mathlib.Core.Option.{Option, some, none}
+use mathlib.Core.Logic.{_⊎_, ⊎-elim}
+use mathlib.Core.List.{List, [], _∷_, _++_, append-assoc, tail-eq-of-cons-eq, head-eq-of-cons-eq, nil≢cons}
+use mathlib.Core.Option.{none}
 use lib.ListN.{length, length-append}
-use Rattle.lxtr_spec.specs.Sets.{PairSet, Has}
+use Rattle.lxtr_spec.specs.Sets.{PairSet}
 use Rattle.lxtr_spec.specs.Meaning.{Longer}
-use Rattle.romaji_spec.specs.Pieces.{Piece, key, byte, pieceText}
+use Rattle.romaji_spec.specs.Pieces.{Piece, pieceText}
 use Rattle.romaji_demands.specs.Cuts.{PieceAt, joined, CutInto, OneCut}
-use Rattle.romaji_demands.specs.Laws.Pieces.{longer-front, piece-stays, piece-some, one-piece}
+use Rattle.romaji_demands.specs.Laws.Pieces.{piece-stays, piece-some, one-piece}
 
 -- the cutting of a text that begins with the piece p
 pub record FirstCut (d : PairSet) (Waits : List ℕ → Type 0) (text : List ℕ) (p : Piece) (ps : List Piece) (rest : List ℕ) : Type 0 where
@@ -75,9 +75,9 @@ module _ (d : PairSet) (Waits : List ℕ → Type 0) where
     stops t q qs r r′ c c′ =
         let f = cut-first t q qs r′ c′ in
         ⊎-elim
-            (λ e. omega (arith, piece-some d no-empty t q (f .piece), ap length (sym (f .parts) ∙ c .parts ∙ e), length-append (pieceText q) (f .later)))
-            (λ w. f .passed (rw (c .parts) w))
-            (c .end)
+        (λ e. omega (arith, piece-some d no-empty t q (f .piece), ap length (sym (f .parts) ∙ c .parts ∙ e), length-append (pieceText q) (f .later)))
+        (λ w. f .passed (rw (c .parts) w))
+        (c .end)
 
     pub one-cut : OneCut d Waits
     unfolding joined

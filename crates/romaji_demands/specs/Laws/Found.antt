@@ -1,19 +1,19 @@
 -- What the searches find at a place of a text over an image: whether a key continues the text, and the piece there.
 -- A text of bytes is the query of those labels, so the library's demand says it in terms of the set of pairs.
-use Prim.Native.Nat.{ℕ, suc, _+_, _-_, _*_, _/_, _%_, _≤_, _<_, _^_}
+use Prim.Native.Nat.{ℕ, _+_, _-_, _*_, _/_, _≤_}
 use native.Mathlib.Omega.{arith}
 use mathlib.Core.Path.{_≡_, refl, sym, ap, ap₂, _∙_, subst}
-use mathlib.Core.Logic.{_⊎_, inl, inr, ⊎-elim, _↔_}
+use mathlib.Core.Logic.{⊎-elim, _↔_}
 use mathlib.Core.List.{List, [], _∷_, _++_}
 use mathlib.Core.Option.{Option, some, none}
 use mathlib.Core.Bool.{true}
-use lib.ListN.{length, take, drop, getD, take-append-drop, length-take, length-append}
+use lib.ListN.{length, take, drop, take-append-drop, length-take, length-append}
 use lib.Seq.{take-take, length-take-le, take-append-add, take-at, split-at}
 use lib.Dec.{leb}
 use borrow.Author.Tests.{le-leb}
 use Rattle.lxtr_spec.specs.Numbers.{beWords}
-use Rattle.lxtr_spec.specs.Labels.{maxLabels, labelsOf}
-use Rattle.lxtr_spec.specs.Searches.{ExactAnswer, LongestAnswer, exactOf, longestOf, probeOf}
+use Rattle.lxtr_spec.specs.Labels.{maxLabels}
+use Rattle.lxtr_spec.specs.Searches.{ExactAnswer, LongestAnswer, exactOf, probeOf}
 use Rattle.lxtr_spec.specs.Sets.{PairSet, Has, ImageOf}
 use Rattle.lxtr_spec.specs.Meaning.{LongestIn, Longer}
 use Rattle.lxtr_laws.specs.Tests.{and-is-true}
@@ -23,7 +23,7 @@ use Rattle.lxtr_demands.specs.Operations.{defined}
 use Rattle.lxtr_demands.specs.Demand2.{Searched, Answered}
 use Rattle.lxtr_demands.specs.Laws.Demand2.{demand2}
 use Rattle.lxtr_demands.specs.Laws.KeysBack.{labels-back}
-use Rattle.romaji_spec.specs.Pieces.{maxKept, couldGrow, Piece, key, byte, matched, matchedValue, pieceBy, pieceAt, pieceText}
+use Rattle.romaji_spec.specs.Pieces.{maxKept, couldGrow, Piece, matched, matchedValue, pieceBy, pieceAt, pieceText}
 use Rattle.romaji_demands.specs.Cuts.{NoKeyAt, PieceAt}
 use Rattle.romaji_demands.specs.Demand.{Bytes}
 use Rattle.romaji_demands.specs.Laws.FrontParts.{bytes-take}
@@ -42,8 +42,7 @@ module _ {b : List ℕ} {d : PairSet} (image : ImageOf b d) where
   unfolding couldGrow maxKept
   grows r small =
       let longer = answered r small .probe-longer in
-      let both = and-is-true (leb (length r) maxKept) (probeOf b (beWords r) .longer) in
-      (
+      let both = and-is-true (leb (length r) maxKept) (probeOf b (beWords r) .longer) in (
         λ e. longer .0 (both .0 e .1),
         λ l. both .1 (le-leb (length r) maxKept (omega (arith, image .keys .key-length (r ++ l .next ∷ l .rest) (l .value) (l .is), length-append r (l .next ∷ l .rest))), longer .1 l),
       )

@@ -1,11 +1,11 @@
 -- Two front parts of one text: one of them begins with the other, and if they are equally long they are equal.
 -- By induction over both, label by label.
-use Prim.Native.Nat.{ℕ, _+_, _<_, _^_}
+use Prim.Native.Nat.{ℕ, _+_}
 use native.Mathlib.Omega.{arith}
 use mathlib.Core.Path.{_≡_, refl, sym, ap, _∙_}
 use mathlib.Core.Logic.{_⊎_, inl, inr, ⊎-elim}
 use mathlib.Core.List.{List, [], _∷_, _++_, head-eq-of-cons-eq, tail-eq-of-cons-eq, append-cancel-left}
-use lib.ListN.{length, take, drop, getD, length-take, length-drop, length-append, List·getD-append}
+use lib.ListN.{length, take, drop, length-take, length-drop, length-append, List·getD-append}
 use lib.Seq.{take-append-seam, getD-take, getD-drop, getD-append-add}
 use Rattle.romaji_demands.specs.Demand.{Bytes}
 

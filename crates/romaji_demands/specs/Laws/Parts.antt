@@ -1,8 +1,7 @@
 -- Typing in parts is typing at once, and finishing after typing is finishing the whole text, for every program that meets the demand.
 -- The rest that was kept back reads as typed just before, so the two calls' cuttings make one.
-use Prim.Native.Nat.{ℕ, _+_, _-_}
-use native.Mathlib.Omega.{arith}
-use mathlib.Core.Path.{_≡_, refl, sym, ap, _∙_, subst}
+use Prim.Native.Nat.{ℕ, _-_}
+use mathlib.Core.Path.{_≡_, sym, ap, _∙_}
 use mathlib.Core.Logic.{⊎-elim}
 use mathlib.Core.List.{List, [], _++_, append-assoc, append-nil}
 use lib.ListN.{length, replicate}
@@ -10,10 +9,10 @@ use lib.Seq.{take-append-seam}
 use Rattle.lxtr_spec.specs.Sets.{PairSet}
 use Rattle.lxtr_spec.specs.Meaning.{Longer}
 use Rattle.romaji_spec.specs.Pieces.{maxKept, Piece}
-use Rattle.romaji_spec.specs.Typing.{keptIn, stateOf, TypingAnswer, refusedBy}
+use Rattle.romaji_spec.specs.Typing.{keptIn, stateOf, TypingAnswer}
 use Rattle.romaji_spec.specs.declared.State.{State}
 use Rattle.romaji_demands.specs.Cuts.{joined, CutInto, Never}
-use Rattle.romaji_demands.specs.Demand.{Program, defined, Ready, RefusedBy, Bytes, Answers, textOf, TypingDemand, roomLeft, AtOnce, TypingInParts, FinishingAfterTyping}
+use Rattle.romaji_demands.specs.Demand.{Program, defined, Ready, Bytes, Answers, textOf, TypingDemand, roomLeft, AtOnce, TypingInParts, FinishingAfterTyping}
 use Rattle.romaji_demands.specs.Laws.FrontParts.{bytes-before, bytes-after}
 use Rattle.romaji_demands.specs.Laws.Pieces.{longer-front}
 use Rattle.romaji_demands.specs.Laws.Cuts.{cut-then}
@@ -35,7 +34,6 @@ module _ (o : Program) (meets : TypingDemand o) where
     module _ (Waits : List ℕ → Type 0) (begins : (r u : List ℕ) → Waits (r ++ u) → Longer d r) (some-cut : (r : List ℕ) → Bytes r → (qs : List Piece) × (rest : List ℕ) × CutInto d Waits r qs rest)
         (then : State → List ℕ → TypingAnswer) (then-answers : (s′ : State) (left : List ℕ) → Bytes (textOf s′ u) → Answers d Waits kana s′ (textOf s′ u) left (then s′ left))
         (whole : TypingAnswer) (whole-answers : Answers d Waits kana s (textOf s t ++ u) room whole) where
-
       then-call : AtOnce s room first (then (first .answer .state) (roomLeft first)) whole
       then-call =
           let typed-bytes = bytes-before (textOf s t) u small in
@@ -51,10 +49,10 @@ module _ (o : Program) (meets : TypingDemand o) where
   parts-at-once b kana s t u room small = ⊎-elim
       (λ (k, r). rw (meets .refused b kana k r s t room .0, meets .refused b kana k r s (t ++ u) room .0) (refused-first s room k (refusal-above-0 b kana k r) _))
       (λ (d, ready).
-          let regroup = sym (append-assoc (keptIn s) t u) in
-          let small′ : Bytes (textOf s t ++ u) = rw regroup at small in
-          then-call b kana d ready s t u room small′ (Longer d) (longer-front d) (λ r is. meets .some-cut b kana d ready r is .0) (λ s′ left. o .type b kana s′ u left)
-          (λ s′ left is. meets .typed b kana d ready s′ u left is) (o .type b kana s (t ++ u) room) (rw regroup at (meets .typed b kana d ready s (t ++ u) room small)))
+      let regroup = sym (append-assoc (keptIn s) t u) in
+      let small′ : Bytes (textOf s t ++ u) = rw regroup at small in
+      then-call b kana d ready s t u room small′ (Longer d) (longer-front d) (λ r is. meets .some-cut b kana d ready r is .0) (λ s′ left. o .type b kana s′ u left)
+      (λ s′ left is. meets .typed b kana d ready s′ u left is) (o .type b kana s (t ++ u) room) (rw regroup at (meets .typed b kana d ready s (t ++ u) room small)))
       (meets .decided b kana)
 
   pub finish-at-once : FinishingAfterTyping o

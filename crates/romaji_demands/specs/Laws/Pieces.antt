@@ -1,17 +1,17 @@
 -- The piece at a place: it is not empty, there is one only, and it stays the same whatever follows a text that no key continues.
 -- The keys that match there are front parts of one text, so of two of them one begins with the other.
-use Prim.Native.Nat.{ℕ, _+_, _≤_}
+use Prim.Native.Nat.{ℕ, _≤_}
 use native.Mathlib.Omega.{arith}
-use mathlib.Core.Path.{_≡_, refl, sym, ap, ap₂, _∙_, subst}
-use mathlib.Core.Logic.{_⊎_, inl, inr, ⊎-elim}
+use mathlib.Core.Path.{_≡_, sym, ap, ap₂, _∙_}
+use mathlib.Core.Logic.{⊎-elim}
 use mathlib.Core.List.{List, [], _∷_, _++_, append-assoc, append-nil, tail-eq-of-cons-eq, head-eq-of-cons-eq}
-use mathlib.Core.Option.{Option, some, none}
+use mathlib.Core.Option.{none}
 use lib.ListN.{length}
 use Rattle.lxtr_spec.specs.Sets.{PairSet, Has}
 use Rattle.lxtr_spec.specs.Meaning.{Longer}
 use Rattle.lxtr_laws.specs.StepFacts.{none-not-some, some-same}
 use Rattle.romaji_spec.specs.Pieces.{Piece, key, byte, pieceText}
-use Rattle.romaji_demands.specs.Cuts.{NoKeyAt, LongestKeyAt, PieceAt}
+use Rattle.romaji_demands.specs.Cuts.{PieceAt}
 use Rattle.romaji_demands.specs.Laws.FrontParts.{fronts, same-fronts}
 
 module _ (d : PairSet) where

@@ -1,24 +1,21 @@
 -- What is refused of image and table, by the set of pairs: 1 to 12 where the bytes are no image, 24 by the highest value, 25 by the
 -- empty key. Texts lie one after the other, so if the text of the highest value is whole, all are.
-use Prim.Native.Nat.{ℕ, suc, _≤_, _<_}
+use Prim.Native.Nat.{ℕ, suc, _<_}
 use native.Mathlib.Omega.{arith}
 use native.Mathlib.Decide.{ℕ-discrete}
-use mathlib.Core.Path.{_≡_, refl, sym, ap, ap₂, _∙_}
+use mathlib.Core.Path.{_≡_, refl, sym, _∙_}
 use mathlib.Core.Logic.{_≢_, _⊎_, inl, inr}
 use mathlib.Core.List.{List, []}
 use mathlib.Core.Option.{Option, some, none}
 use mathlib.Core.Bool.{Bool, true, false, false≢true}
 use lib.ListN.{length}
-use lib.Dec.{ltb}
 use borrow.Author.Tests.{ltb-true, ltb-false, lt-ltb, le-ltb}
 use Rattle.lxtr_spec.specs.Labels.{labelsOf, labelsFrom}
 use Rattle.lxtr_spec.specs.Refusals.{refuseIf, firstRefusal, imageRefusal, checkOf}
-use Rattle.lxtr_spec.specs.HighestValues.{HighestAnswer, highestOf}
-use Rattle.lxtr_spec.specs.Searches.{ExactAnswer, exactOf}
+use Rattle.lxtr_spec.specs.HighestValues.{highestOf}
 use Rattle.lxtr_spec.specs.Sets.{PairSet, Has, ImageOf}
 use Rattle.lxtr_spec.specs.Meaning.{HighestIn}
 use Rattle.lxtr_laws.specs.RefusalChains.{first-stands}
-use Rattle.lxtr_laws.specs.StepFacts.{some-same}
 use Rattle.lxtr_demands.specs.Laws.Demand2.{demand2}
 use Rattle.lxtr_demands.specs.Laws.Demand3.{demand3}
 use Rattle.lxtr_demands.specs.Laws.HighestValue.{highest-value}

@@ -3,7 +3,7 @@
 use Prim.Native.Nat.{ℕ, _+_, _*_, _-_, _≤_, _<_}
 use native.Mathlib.Omega.{arith}
 use native.Mathlib.Decide.{decLt}
-use mathlib.Core.Path.{_≡_, refl, sym, ap, ap₂, _∙_, subst}
+use mathlib.Core.Path.{_≡_, refl, sym, ap, ap₂, _∙_}
 use mathlib.Core.Logic.{_≢_}
 use mathlib.Core.List.{List, [], _∷_, _++_, append-assoc}
 use lib.ListN.{length, take, drop, length-append, length-drop}
@@ -16,7 +16,6 @@ use Rattle.lxtr_spec.specs.Meaning.{Longer}
 use Rattle.romaji_spec.specs.Pieces.{Piece, pieceOut, outgoing}
 use Rattle.romaji_spec.specs.Typing.{stateOf, TypingAnswer, refusedBy, wentOut}
 use Rattle.romaji_spec.specs.declared.State.{State}
-use Rattle.romaji_spec.specs.declared.Typed.{Typed}
 use Rattle.romaji_demands.specs.Cuts.{CutInto, TypedAs}
 use Rattle.romaji_demands.specs.Demand.{Answers, roomLeft, together, AtOnce}
 
@@ -68,7 +67,6 @@ module _ {d : PairSet} {Waits : List ℕ → Type 0} (kana : List ℕ) (s : Stat
     (typed : TypedAs d t ps rest) (after : CutInto d Waits (rest ++ u) qs rest′) (all : CutInto d Waits (t ++ u) (ps ++ qs) rest′)
     (first whole : TypingAnswer) (then : State → List ℕ → TypingAnswer) (answers : Answers d (Longer d) kana s t room first)
     (then-answers : (left : List ℕ) → Answers d Waits kana (stateOf rest) (rest ++ u) left (then (stateOf rest) left)) (whole-answers : Answers d Waits kana s (t ++ u) room whole) where
-
   abbrev Goal : TypingAnswer → Type 0
   Goal a = AtOnce s room a (then (a .answer .state) (roomLeft a)) whole
 

@@ -1,9 +1,8 @@
 -- The demand, from its parts: the definitions cut the text in the one way in which it is cut, and answer what that cutting says.
 -- Typing and finishing are one proof, over which texts are kept back.
 use Prim.Native.Nat.{ℕ, _*_, _≤_, _<_}
-use native.Mathlib.Omega.{arith}
-use mathlib.Core.Path.{_≡_, refl, sym, ap, ap₂, _∙_, subst}
-use mathlib.Core.Logic.{_≢_, ⊎-elim}
+use mathlib.Core.Path.{_≡_, sym, ap, ap₂, _∙_}
+use mathlib.Core.Logic.{⊎-elim}
 use mathlib.Core.List.{List, [], _++_}
 use mathlib.Core.Bool.{Bool, true, false}
 use lib.ListN.{length}
@@ -67,8 +66,7 @@ typing-demand = record {
   refused = λ b kana k r s typed room. (convert-refuses true b kana s typed room k r, convert-refuses false b kana s [] room k r);
   some-cut = λ b kana d ready t small.
       let typed = cut true b t in
-      let finished = cut false b t in
-      (
+      let finished = cut false b t in (
         (typed .pieces, typed .rest, cut-is (ready .image) (ready .no-empty) (typing-keeps b d (ready .image)) t small),
         (finished .pieces, no-rest d t (finished .pieces) (finished .rest) (cut-is (ready .image) (ready .no-empty) (finishing-keeps b d) t small)),
       );
