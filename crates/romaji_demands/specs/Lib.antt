@@ -2,3 +2,5 @@
 pub mod Cuts
 pub mod Demand
 pub mod Laws
+pub mod Rows
+pub mod Examples
