@@ -4,3 +4,4 @@ pub mod Demand
 pub mod Laws
 pub mod Rows
 pub mod Examples
+pub mod Instances

@@ -1,7 +1,7 @@
 -- Rows of a table of examples for romaji typing: what is run on the definitions, and what it has to give.
 use Prim.Native.Nat.{ℕ, _*_, _-_, _^_}
 use mathlib.Core.Path.{_≡_}
-use mathlib.Core.List.{List, [], _∷_, _++_}
+use mathlib.Core.List.{List, [], _++_}
 use lib.ListN.{length, replicate}
 use Rattle.lxtr_spec.specs.Numbers.{beWords}
 use Rattle.lxtr_laws.specs.ExampleTables as tables
@@ -12,7 +12,6 @@ use Rattle.romaji_spec.specs.Pieces.{maxKept, couldGrow, matched, matchedValue,
 use Rattle.romaji_spec.specs.Typing.{keptIn, stateOf, isValue, hasEmptyKey, tableRefusal, roomRefusal, TypingAnswer, refusedBy, wentOut, answered, convert, typeOf, finishOf}
 use Rattle.romaji_spec.specs.HostStates.{stateBytes, keptBytes, HostTyping, hostTyping, hostTypeOf, hostFinishOf}
 use Rattle.romaji_spec.specs.declared.State.{State}
-use Rattle.romaji_spec.specs.declared.Typed.{Typed}
 
 -- What is run, and what it gives. A state is given by the bytes that it keeps, room by its number of bytes, what goes out by its labels.
 pub data Example : Type 0 where

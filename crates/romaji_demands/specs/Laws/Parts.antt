@@ -21,7 +21,7 @@ use Rattle.romaji_demands.specs.Laws.Typing.{typing-demand}
 use Rattle.romaji_demands.specs.Laws.TwoCalls.{refused-first, at-once}
 
 -- a state keeps the bytes that it was made for
-kept-same : (rest : List ℕ) → keptIn (stateOf rest) ≡ rest
+pub kept-same : (rest : List ℕ) → keptIn (stateOf rest) ≡ rest
 unfolding keptIn stateOf
 kept-same rest = take-append-seam rest (replicate (maxKept - length rest) 0)
 
