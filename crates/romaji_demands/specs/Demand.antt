@@ -1,5 +1,6 @@
 -- What typing and finishing have to answer, of any program, in terms of the set of pairs of the image and the kana table.
--- Only the statements; that the definitions meet them is `typing-demand` and `typing-in-parts` in Laws/.
+-- Only the statements; that the definitions meet them is `typing-demand` in Laws/Typing.antt, and `typing-in-parts` and
+-- `finishing-after-typing` in Laws/Parts.antt.
 use Prim.Native.Nat.{ℕ, suc, _+_, _*_, _≤_, _<_, _^_}
 use mathlib.Core.Path.{_≡_}
 use mathlib.Core.Logic.{_≢_, _⊎_}

@@ -11,10 +11,10 @@ use Rattle.lxtr_spec.specs.Numbers.{beWords}
 use Rattle.lxtr_spec.specs.Sets.{PairSet}
 use Rattle.lxtr_spec.specs.Samples.{p3}
 use Rattle.romaji_spec.specs.Pieces.{Piece, outgoing}
-use Rattle.romaji_spec.specs.Typing.{keptIn, stateOf, TypingAnswer, refusedBy, typeOf, finishOf}
+use Rattle.romaji_spec.specs.Typing.{keptIn, stateOf, TypingAnswer, refusedBy, wentOut, typeOf, finishOf}
 use Rattle.romaji_spec.specs.declared.State.{State}
 use Rattle.romaji_demands.specs.Cuts.{CutInto}
-use Rattle.romaji_demands.specs.Demand.{Program, RefusedBy, Bytes, Answers, textOf, TypingDemand}
+use Rattle.romaji_demands.specs.Demand.{Program, Bytes, Answers, textOf, TypingDemand}
 use Rattle.romaji_demands.specs.Laws.Typing.{typing-demand}
 use Rattle.romaji_demands.specs.Laws.Parts.{kept-same}
 use Rattle.romaji_demands.specs.Rows.{romaji-computing}
@@ -28,6 +28,24 @@ one-answer {d} {Waits} {kana} {s} {text} {room} {a} {c} ps rest is x y = go (dec
     go : Dec (length room < 4 * length (outgoing kana ps)) → a ≡ c
     go (yes short) = x .no-room ps rest is short ∙ sym (y .no-room ps rest is short)
     go (no enough) = let h : 4 * length (outgoing kana ps) ≤ length room = omega arith in x .goes-out ps rest is h ∙ sym (y .goes-out ps rest is h)
+
+-- state and room as before the call
+abbrev pub Unchanged : State → List ℕ → TypingAnswer → Type 0
+Unchanged s room a = (a .answer .state ≡ s) × (a .room ≡ room)
+
+refused-unchanged : {s : State} {room : List ℕ} {a : TypingAnswer} (k : ℕ) → a ≡ refusedBy k s room → Unchanged s room a
+unfolding refusedBy
+refused-unchanged k e = (ap (λ (x : TypingAnswer). x .answer .state) e, ap (λ (x : TypingAnswer). x .room) e)
+
+-- a cutting that is refused is refused for want of room
+answer-unchanged : {d : PairSet} {Waits : List ℕ → Type 0} {kana : List ℕ} {s : State} {text room : List ℕ} {a : TypingAnswer} (ps : List Piece) (rest : List ℕ) → CutInto d Waits text ps rest
+    → Answers d Waits kana s text room a → a .answer .refusal ≢ 0 → Unchanged s room a
+unfolding wentOut
+answer-unchanged {d} {Waits} {kana} {s} {text} {room} {a} ps rest is x refuses = go (decLt (length room) (4 * length (outgoing kana ps)))
+  where
+    go : Dec (length room < 4 * length (outgoing kana ps)) → Unchanged s room a
+    go (yes short) = refused-unchanged 29 (x .no-room ps rest is short)
+    go (no enough) = absurd (refuses (ap (λ (y : TypingAnswer). y .answer .refusal) (x .goes-out ps rest is (omega arith))))
 
 -- ---- texts over P3: `n`, `na`, and `a` alone
 
@@ -99,14 +117,24 @@ module _ (o : Program) (meets : TypingDemand o) where
       one-answer ps [] is (meets .finished b kana d ready s room small) (typing-demand .finished b kana d ready s room small))
       (typing-demand .decided b kana)
 
-  -- Refusals: a state or room that changes with one fails.
-  pub changed-state-fails : (b kana : List ℕ) (k : ℕ) → RefusedBy b kana k → (s : State) (typed room : List ℕ) → o .type b kana s typed room .answer .state ≢ s → ⊥
-  unfolding refusedBy
-  changed-state-fails b kana k r s typed room other = other (ap (λ (a : TypingAnswer). a .answer .state) (meets .refused b kana k r s typed room .0))
+  -- A refused call that changes the state or the room fails.
+  pub changing-type-fails : (b kana : List ℕ) (s : State) (typed room : List ℕ) → Bytes (textOf s typed) → o .type b kana s typed room .answer .refusal ≢ 0
+      → (Unchanged s room (o .type b kana s typed room) → ⊥) → ⊥
+  changing-type-fails b kana s typed room small refuses changes = changes (⊎-elim
+      (λ (k, r). refused-unchanged k (meets .refused b kana k r s typed room .0))
+      (λ (d, ready).
+      let (ps, rest, is) = typing-demand .some-cut b kana d ready (textOf s typed) small .0 in
+      answer-unchanged ps rest is (meets .typed b kana d ready s typed room small) refuses)
+      (typing-demand .decided b kana))
 
-  pub changed-room-fails : (b kana : List ℕ) (k : ℕ) → RefusedBy b kana k → (s : State) (typed room : List ℕ) → o .type b kana s typed room .room ≢ room → ⊥
-  unfolding refusedBy
-  changed-room-fails b kana k r s typed room other = other (ap (λ (a : TypingAnswer). a .room) (meets .refused b kana k r s typed room .0))
+  pub changing-finish-fails : (b kana : List ℕ) (s : State) (room : List ℕ) → Bytes (textOf s []) → o .finish b kana s room .answer .refusal ≢ 0
+      → (Unchanged s room (o .finish b kana s room) → ⊥) → ⊥
+  changing-finish-fails b kana s room small refuses changes = changes (⊎-elim
+      (λ (k, r). refused-unchanged k (meets .refused b kana k r s [] room .1))
+      (λ (d, ready).
+      let (ps, is) = typing-demand .some-cut b kana d ready (textOf s []) small .1 in
+      answer-unchanged ps [] is (meets .finished b kana d ready s room small) refuses)
+      (typing-demand .decided b kana))
 
   -- what it answers over P3
   over-3 : (kept typed : List ℕ) → Bytes (kept ++ typed) → o .type p3 kana3 (stateOf kept) typed blank ≡ typed3 kept typed

@@ -4,7 +4,7 @@ use Prim.Native.Nat.{ℕ, zero, suc, _≤_}
 use native.Mathlib.Omega.{arith}
 use mathlib.Core.Path.{_≡_, refl, sym, _∙_}
 use mathlib.Core.Logic.{_↔_, inl, inr}
-use mathlib.Core.List.{List, [], _∷_, _++_}
+use mathlib.Core.List.{List, [], _∷_}
 use mathlib.Core.Option.{none}
 use mathlib.Core.Bool.{Bool, true, false, _&&_, true≢false, false≢true}
 use lib.ListN.{length, drop, length-drop}
@@ -15,23 +15,22 @@ use Rattle.romaji_laws.specs.Steps.{Keeps, cut-end, cut-keeps, cut-next}
 use Rattle.romaji_demands.specs.Cuts.{CutInto, Never}
 use Rattle.romaji_demands.specs.Demand.{Bytes}
 use Rattle.romaji_demands.specs.Laws.FrontParts.{bytes-drop}
-use Rattle.romaji_demands.specs.Laws.Pieces.{longer-front, piece-some}
+use Rattle.romaji_demands.specs.Laws.Pieces.{piece-some}
 use Rattle.romaji_demands.specs.Laws.Cuts.{only-rest, first-cut}
 use Rattle.romaji_demands.specs.Laws.Found.{grows, piece-found}
 
--- which texts are kept back, said of the set of pairs: where the test says so, and only beginnings of keys
-pub record KeptBack (b : List ℕ) (d : PairSet) (keeping : Bool) (Waits : List ℕ → Type 0) : Type 0 where
-  pub test : (r : List ℕ) → Bytes r → Keeps keeping b r ↔ Waits r
-  pub begins : (r u : List ℕ) → Waits (r ++ u) → Longer d r
+-- the test says which texts are kept back
+abbrev pub KeptBack : List ℕ → Bool → (List ℕ → Type 0) → Type 0
+KeptBack b keeping Waits = (r : List ℕ) → Bytes r → Keeps keeping b r ↔ Waits r
 
--- typing keeps back the beginnings of keys, finishing nothing
-pub typing-keeps : (b : List ℕ) (d : PairSet) → ImageOf b d → KeptBack b d true (Longer d)
-typing-keeps b d image = record { test = grows image; begins = longer-front d }
+-- typing keeps back the proper front parts of keys, finishing nothing
+pub typing-keeps : {b : List ℕ} {d : PairSet} → ImageOf b d → KeptBack b true (Longer d)
+typing-keeps = grows
 
-pub finishing-keeps : (b : List ℕ) (d : PairSet) → KeptBack b d false Never
-finishing-keeps b d = record { test = λ r small. (λ e. false≢true e, λ w. absurd w); begins = λ r u w. absurd w }
+pub finishing-keeps : (b : List ℕ) → KeptBack b false Never
+finishing-keeps b r small = (λ e. false≢true e, λ w. absurd w)
 
-module _ {b : List ℕ} {d : PairSet} (image : ImageOf b d) (no-empty : d [] ≡ none) {keeping : Bool} {Waits : List ℕ → Type 0} (kept : KeptBack b d keeping Waits) where
+module _ {b : List ℕ} {d : PairSet} (image : ImageOf b d) (no-empty : d [] ≡ none) (keeping : Bool) (Waits : List ℕ → Type 0) (kept : KeptBack b keeping Waits) where
   -- the text is cut so
   abbrev CutAs : List ℕ → Cutting → Type 0
   CutAs t c = CutInto d Waits t (c .pieces) (c .rest)
@@ -42,7 +41,7 @@ module _ {b : List ℕ} {d : PairSet} (image : ImageOf b d) (no-empty : d [] ≡
   cut-at r some-text small later = go (keeping && couldGrow b r) refl
     where
       go : (t : Bool) → (keeping && couldGrow b r) ≡ t → CutAs r (cut keeping b r)
-      go true e = rw (cut-keeps keeping b r e) (only-rest d Waits r (inr (kept .test r small .0 e)))
+      go true e = rw (cut-keeps keeping b r e) (only-rest d Waits r (inr (kept r small .0 e)))
       go false e =
           let f = piece-found image no-empty r small some-text in
           let size = piece-some d no-empty r (pieceAt b r) (f .piece) in
@@ -52,7 +51,7 @@ module _ {b : List ℕ} {d : PairSet} (image : ImageOf b d) (no-empty : d [] ≡
             later = after;
             parts = f .parts;
             piece = f .piece;
-            passed = λ w. true≢false (sym (kept .test r small .1 w) ∙ e);
+            passed = λ w. true≢false (sym (kept r small .1 w) ∙ e);
             then = later (length (pieceText (pieceAt b r))) size;
           }))
 

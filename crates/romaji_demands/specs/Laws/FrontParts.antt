@@ -1,5 +1,5 @@
 -- Two front parts of one text: one of them begins with the other, and if they are equally long they are equal.
--- By induction over both, label by label.
+-- By induction over both, one element at a time. Then: parts of a list of bytes are bytes.
 use Prim.Native.Nat.{ℕ, _+_}
 use native.Mathlib.Omega.{arith}
 use mathlib.Core.Path.{_≡_, refl, sym, ap, _∙_}
@@ -28,7 +28,6 @@ same-fronts k m l n e h =
     let same : k ≡ l = sym (take-append-seam k m) ∙ ap (λ (i : ℕ). take i (k ++ m)) h ∙ ap (take (length l)) e ∙ take-append-seam l n in
     (same, append-cancel-left l m n (ap (λ (j : List ℕ). j ++ m) (sym same) ∙ e))
 
--- parts of a list of bytes are bytes
 pub bytes-take : (n : ℕ) (t : List ℕ) → Bytes t → Bytes (take n t)
 bytes-take n t small i h = let l = length-take n t in rw (getD-take n t i 0 (omega arith)) (small i (omega arith))
 

@@ -15,7 +15,7 @@ use Rattle.romaji_demands.specs.Cuts.{PieceAt}
 use Rattle.romaji_demands.specs.Laws.FrontParts.{fronts, same-fronts}
 
 module _ (d : PairSet) where
-  -- a text that a longer text's key continues is continued by that key too
+  -- a key that continues r ++ u continues r
   pub longer-front : (r u : List ℕ) → Longer d (r ++ u) → Longer d r
   longer-front r [] l = rw append-nil at l
   longer-front r (x ∷ u) l = record { next = x; rest = u ++ l .next ∷ l .rest; value = l .value; is = rw append-assoc at (l .is) }

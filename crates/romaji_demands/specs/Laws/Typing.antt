@@ -43,7 +43,7 @@ module _ (keeping : Bool) (b kana : List ℕ) (s : State) (typed room : List ℕ
     unfolding convert unlessRefused
     converts = rw (ready-passes b kana d ready)
 
-    answers : (Waits : List ℕ → Type 0) → KeptBack b d keeping Waits → Bytes (textOf s typed) → Answers d Waits kana s (textOf s typed) room (convert keeping b kana s typed room)
+    answers : (Waits : List ℕ → Type 0) → KeptBack b keeping Waits → Bytes (textOf s typed) → Answers d Waits kana s (textOf s typed) room (convert keeping b kana s typed room)
     answers Waits kept small = record {
       goes-out = λ ps rest c h. let (e, f) = same ps rest c in converts ∙ room-enough kana s room made (rw e h) ∙ ap₂ (λ (l : List Piece) (r : List ℕ). wentOut room (outgoing kana l) r) e f;
       no-room = λ ps rest c h. let (e, f) = same ps rest c in converts ∙ room-short kana s room made (rw e h);
@@ -53,7 +53,7 @@ module _ (keeping : Bool) (b kana : List ℕ) (s : State) (typed room : List ℕ
         made = cut keeping b (textOf s typed)
 
         same : (ps : List Piece) (rest : List ℕ) → CutInto d Waits (textOf s typed) ps rest → (made .pieces ≡ ps) × (made .rest ≡ rest)
-        same ps rest c = one-cut d Waits (ready .no-empty) (textOf s typed) (made .pieces) ps (made .rest) rest (cut-is (ready .image) (ready .no-empty) kept (textOf s typed) small) c
+        same ps rest c = one-cut d Waits (ready .no-empty) (textOf s typed) (made .pieces) ps (made .rest) rest (cut-is (ready .image) (ready .no-empty) keeping Waits kept (textOf s typed) small) c
 
 -- finishing leaves no rest
 no-rest : (d : PairSet) (t : List ℕ) (ps : List Piece) (rest : List ℕ) → FinishedAs d t ps rest → FinishedAs d t ps []
@@ -67,10 +67,10 @@ typing-demand = record {
   some-cut = λ b kana d ready t small.
       let typed = cut true b t in
       let finished = cut false b t in (
-        (typed .pieces, typed .rest, cut-is (ready .image) (ready .no-empty) (typing-keeps b d (ready .image)) t small),
-        (finished .pieces, no-rest d t (finished .pieces) (finished .rest) (cut-is (ready .image) (ready .no-empty) (finishing-keeps b d) t small)),
+        (typed .pieces, typed .rest, cut-is (ready .image) (ready .no-empty) true (Longer d) (typing-keeps (ready .image)) t small),
+        (finished .pieces, no-rest d t (finished .pieces) (finished .rest) (cut-is (ready .image) (ready .no-empty) false Never (finishing-keeps b) t small)),
       );
   one-cut = λ b kana d ready. (one-cut d (Longer d) (ready .no-empty), one-cut d Never (ready .no-empty));
-  typed = λ b kana d ready s typed room small. answers true b kana s typed room d ready (Longer d) (typing-keeps b d (ready .image)) small;
-  finished = λ b kana d ready s room small. answers false b kana s [] room d ready Never (finishing-keeps b d) small;
+  typed = λ b kana d ready s typed room small. answers true b kana s typed room d ready (Longer d) (typing-keeps (ready .image)) small;
+  finished = λ b kana d ready s room small. answers false b kana s [] room d ready Never (finishing-keeps b) small;
 }
