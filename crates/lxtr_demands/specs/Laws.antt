@@ -23,6 +23,8 @@ pub mod Completions
 pub mod Demand3
 -- Where a fault lies.
 pub mod RightPlaces
+-- The highest value.
+pub mod HighestValue
 -- The other searches.
 pub mod Probes
 pub mod Prefixes

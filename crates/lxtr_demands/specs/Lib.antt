@@ -1,10 +1,12 @@
--- Demands 2 and 3 of document 01, and the claim about places of faults: each is stated in a file of its own, and proved in Laws.
+-- Demands 2 and 3 of document 01, the claim about places of faults, and that about the highest value: each is stated in a file of its
+-- own, and proved in Laws.
 -- Then document 01's examples P1 to P11, as one table.
 pub mod Operations
 pub mod Demand3
 pub mod Demand2
 pub mod Builder
 pub mod RightPlaces
+pub mod HighestValue
 pub mod Laws
 pub mod Rows
 pub mod Examples

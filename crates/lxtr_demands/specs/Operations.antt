@@ -4,6 +4,7 @@
 use Prim.Native.Nat.{ℕ}
 use mathlib.Core.List.{List}
 use Rattle.lxtr_spec.specs.Refusals.{checkOf}
+use Rattle.lxtr_spec.specs.HighestValues.{HighestAnswer, highestOf}
 use Rattle.lxtr_spec.specs.Searches.{ExactAnswer, LongestAnswer, ProbeAnswer, exactOf, prefixesOf, longestOf, probeOf}
 use Rattle.lxtr_spec.specs.Completions.{CompletionAnswer, completionOf}
 use Rattle.lxtr_spec.specs.Builds.{BuildAnswer, buildOf}
@@ -11,8 +12,9 @@ use Rattle.lxtr_spec.specs.declared.Verdict.{Verdict}
 use Rattle.lxtr_spec.specs.declared.Prefixes.{Prefixes}
 
 pub record Operations : Type 0 where
-  -- takes an image
+  -- take an image
   pub check : List ℕ → Verdict
+  pub highest : List ℕ → HighestAnswer
   -- take image and query
   pub exact : List ℕ → List ℕ → ExactAnswer
   pub prefixes : List ℕ → List ℕ → Prefixes
@@ -24,4 +26,4 @@ pub record Operations : Type 0 where
   pub build : List ℕ → List ℕ → List ℕ → BuildAnswer
 
 abbrev pub defined : Operations
-defined = record { check = checkOf; exact = exactOf; prefixes = prefixesOf; longest = longestOf; probe = probeOf; complete = completionOf; build = buildOf }
+defined = record { check = checkOf; highest = highestOf; exact = exactOf; prefixes = prefixesOf; longest = longestOf; probe = probeOf; complete = completionOf; build = buildOf }

@@ -13,10 +13,11 @@ use Rattle.lxtr_spec.specs.Joining.{slotUnder, codeUnder}
 use Rattle.lxtr_spec.specs.Image.{magic, version, slotCount, childCount, mapLength, baseWord, checkWord, isLeaf, hasLeaf, parent, hasParent, base, valueNumber, slotFrom, codeTo, offset, child, listWidth, mapVersion, labelCount, labelAt, labelOfCode, codeFrom, codeOf}
 use Rattle.lxtr_spec.specs.Refusals.{refuseIf, firstRefusal, unlessRefused, tooShort, byteDiffers, magicDiffers, versionWrong, reservedSet, sizesWrong, lengthWrong, mapWrong, offsetEndsWrong, headerRefusal, sameLabel, labelWrong, labelsWrong, isUsedFrom2, isUsed, ownCode, bothZero, usedSlotWrong, endExists, flagWrong, slotWrong, slotsWrong, offsetFalls, usedCount, entryWrong, codeNotAbove, entryWrongIn, entriesWrong, childless, rootWrong, listsWrong, reaches, unreachable, someUnreachable, bodyRefusal, imageRefusal, isEnd, endCount, checkOf}
 use Rattle.lxtr_spec.specs.FaultPlaces.{faultIf, labelFault, slotFault, offsetFault, entryFaultOf, entryFault, isEntry, unlisted, unlistedFault, childlessFault, listFault, reachFault, faultBy, faultOf}
+use Rattle.lxtr_spec.specs.HighestValues.{larger, highestBelow, highestOf}
 use Rattle.lxtr_spec.specs.Walks.{step, stepBy, walk, walkWithin, leafValue, valueAt, valueReached, valueOf, longerAt}
 use Rattle.lxtr_spec.specs.Searches.{queryRefusal, searchRefusal, exactValue, exactOf, lengthMatch, matchAt, matches, prefixMatches, prefixesAnswer, prefixesOf, lastLength, longestLength, longestOf, probeAnswer, probeAt, probeOf}
 use Rattle.lxtr_spec.specs.Completions.{entryPairs, listFrom, pairsAt, pairsBelow, recordOf, recordsOf, fitting, listingOf, listedIn, completionAnswer, written, completionRefusal, completionOf}
-use Rattle.lxtr_spec.specs.HostNumbers.{hostNumber, valueNumbered, checkNumber, exactNumber, probeNumber, longestNumber, placeNumber, faultNumbered, faultNumber, placeWords, alternately, atFront, placesAfter, prefixesNumber, hostPrefixesOf, completionNumber, hostCompletionOf, builtNumber, hostBuildOf}
+use Rattle.lxtr_spec.specs.HostNumbers.{hostNumber, valueNumbered, checkNumber, exactNumber, probeNumber, longestNumber, placeNumber, faultNumbered, faultNumber, highestNumber, placeWords, alternately, atFront, placesAfter, prefixesNumber, hostPrefixesOf, completionNumber, hostCompletionOf, builtNumber, hostBuildOf}
 use Rattle.lxtr_spec.specs.KeyLists.{listVersion, keyCount, keyLength, keyLabel, nextKey, keyLabels, keyAt, keysFrom, pairsOf, noScalarAt, notAbove, keyRefusal, keysRefusal, listRefusal}
 use Rattle.lxtr_spec.specs.CodeMaps.{insert, insertAll, labelsUsed, contains, frequency, goesBefore, rankIn, ranked, mapOf, codeIn, labelWith}
 use Rattle.lxtr_spec.specs.Placing.{baseAt, checkAt, isTakenFrom2, isFree, fits, firstFitFrom, firstFit, nextCode, childCodes, below, endValue, putChild, putChildren, putParent, settle, intoEach, place}
@@ -38,6 +39,9 @@ pub data Example : Type 0 where
   refused : List ℕ → ℕ → Example
   -- an image, where its fault lies, number for the host program
   fault-at : List ℕ → Fault → ℕ → Example
+  -- an accepted image, the highest value of its set, number for the host program; and a refused image, its refusal
+  highest : List ℕ → Option ℕ → ℕ → Example
+  highest-refused : List ℕ → ℕ → Example
   -- image, query, value, number for the host program
   exact : List ℕ → List ℕ → Option ℕ → ℕ → Example
   -- image, query, lengths and values of the matches
@@ -82,6 +86,8 @@ Holds (refused b k) =
     (checkOf b ≡ record { refusal = k; pairs = 0 }) × (checkNumber b ≡ k * 2 ^ 40)
     × (completionOf b [] (unwritten 40) ≡ record { answer = record { refusal = k; count = 0; stopped = false }; room = unwritten 40 })
 Holds (fault-at b f n) = (faultOf b ≡ f) × (faultNumber b ≡ n)
+Holds (highest b v n) = (highestOf b ≡ record { refusal = 0; value = v }) × (highestNumber b ≡ n)
+Holds (highest-refused b k) = (highestOf b ≡ record { refusal = k; value = none }) × (highestNumber b ≡ k * 2 ^ 40)
 Holds (exact b xs v n) = (exactOf b (beWords xs) ≡ record { refusal = 0; value = v }) × (exactNumber b (beWords xs) ≡ n)
 Holds (prefixes b xs lengths values) =
     prefixesOf b (beWords xs) ≡ record { refusal = 0; count = length lengths; lengths = lengths ++ replicate (lengthCount - length lengths) 0; values = values ++ replicate (lengthCount - length values) 0 }
@@ -121,5 +127,5 @@ AllHold es = tables.AllHold Holds es
 
 -- every definition that a row runs: to unfold this name is to unfold them all
 unfoldable pub computing : Unit {0}
-unfolding anyBelow countBelow firstFrom firstBelow le32 be32 leBytes beBytes leWords beWords isScalar maxLabels labelsFrom labelsOf slotUnder codeUnder magic version slotCount childCount mapLength baseWord checkWord isLeaf hasLeaf parent hasParent base valueNumber slotFrom codeTo offset child listWidth mapVersion labelCount labelAt labelOfCode codeFrom codeOf refuseIf firstRefusal unlessRefused tooShort byteDiffers magicDiffers versionWrong reservedSet sizesWrong lengthWrong mapWrong offsetEndsWrong headerRefusal sameLabel labelWrong labelsWrong isUsedFrom2 isUsed ownCode bothZero usedSlotWrong endExists flagWrong slotWrong slotsWrong offsetFalls usedCount entryWrong codeNotAbove entryWrongIn entriesWrong childless rootWrong listsWrong reaches unreachable someUnreachable bodyRefusal imageRefusal isEnd endCount checkOf faultIf labelFault slotFault offsetFault entryFaultOf entryFault isEntry unlisted unlistedFault childlessFault listFault reachFault faultBy faultOf step stepBy walk walkWithin leafValue valueAt valueReached valueOf longerAt queryRefusal searchRefusal exactValue exactOf lengthMatch matchAt matches prefixMatches prefixesAnswer prefixesOf lastLength longestLength longestOf probeAnswer probeAt probeOf concatFrom entryPairs listFrom pairsAt pairsBelow recordOf recordsOf fitting listingOf listedIn completionAnswer written completionRefusal completionOf hostNumber valueNumbered checkNumber exactNumber probeNumber longestNumber placeNumber faultNumbered faultNumber placeWords alternately atFront placesAfter prefixesNumber hostPrefixesOf completionNumber hostCompletionOf builtNumber hostBuildOf comesBefore listVersion keyCount keyLength keyLabel nextKey keyLabels keyAt keysFrom pairsOf noScalarAt notAbove keyRefusal keysRefusal listRefusal insert insertAll labelsUsed contains frequency goesBefore rankIn ranked mapOf codeIn labelWith baseAt checkAt isTakenFrom2 isFree fits firstFitFrom firstFit nextCode childCodes below endValue putChild putChildren putParent settle intoEach place headerBytes mapBytes imageBytes slotsUsed isChild childBy childrenOf childrenIn offsetsFrom imageIn slotsIn placedIn withRoom fromPlaced fromLabels fromKeys outcomeOf answered workAfter buildOf keyRecords keyList p1 p2 nodes3 offsets3 children3 labels3 p3 p7 p8-check p8-slot p9-labels p9-longer p10 p11
+unfolding anyBelow countBelow firstFrom firstBelow le32 be32 leBytes beBytes leWords beWords isScalar maxLabels labelsFrom labelsOf slotUnder codeUnder magic version slotCount childCount mapLength baseWord checkWord isLeaf hasLeaf parent hasParent base valueNumber slotFrom codeTo offset child listWidth mapVersion labelCount labelAt labelOfCode codeFrom codeOf refuseIf firstRefusal unlessRefused tooShort byteDiffers magicDiffers versionWrong reservedSet sizesWrong lengthWrong mapWrong offsetEndsWrong headerRefusal sameLabel labelWrong labelsWrong isUsedFrom2 isUsed ownCode bothZero usedSlotWrong endExists flagWrong slotWrong slotsWrong offsetFalls usedCount entryWrong codeNotAbove entryWrongIn entriesWrong childless rootWrong listsWrong reaches unreachable someUnreachable bodyRefusal imageRefusal isEnd endCount checkOf faultIf labelFault slotFault offsetFault entryFaultOf entryFault isEntry unlisted unlistedFault childlessFault listFault reachFault faultBy faultOf larger highestBelow highestOf step stepBy walk walkWithin leafValue valueAt valueReached valueOf longerAt queryRefusal searchRefusal exactValue exactOf lengthMatch matchAt matches prefixMatches prefixesAnswer prefixesOf lastLength longestLength longestOf probeAnswer probeAt probeOf concatFrom entryPairs listFrom pairsAt pairsBelow recordOf recordsOf fitting listingOf listedIn completionAnswer written completionRefusal completionOf hostNumber valueNumbered checkNumber exactNumber probeNumber longestNumber placeNumber faultNumbered faultNumber highestNumber placeWords alternately atFront placesAfter prefixesNumber hostPrefixesOf completionNumber hostCompletionOf builtNumber hostBuildOf comesBefore listVersion keyCount keyLength keyLabel nextKey keyLabels keyAt keysFrom pairsOf noScalarAt notAbove keyRefusal keysRefusal listRefusal insert insertAll labelsUsed contains frequency goesBefore rankIn ranked mapOf codeIn labelWith baseAt checkAt isTakenFrom2 isFree fits firstFitFrom firstFit nextCode childCodes below endValue putChild putChildren putParent settle intoEach place headerBytes mapBytes imageBytes slotsUsed isChild childBy childrenOf childrenIn offsetsFrom imageIn slotsIn placedIn withRoom fromPlaced fromLabels fromKeys outcomeOf answered workAfter buildOf keyRecords keyList p1 p2 nodes3 offsets3 children3 labels3 p3 p7 p8-check p8-slot p9-labels p9-longer p10 p11
 computing = tt

@@ -1,19 +1,21 @@
 -- What the demands rule out, for every possible program. In each module, o is any program that meets the demand, whatever else it
 -- does: over an image it answers what the definitions answer, and from any key list it builds what they build, or refuses as they
--- do. So the programs that document 01 names under "What the promises rule out" fail. Then what is ruled out for code maps and for
--- places of faults.
-use Prim.Native.Nat.{ℕ, _%_, _≤_, _<_}
+-- do. So the programs that document 01 names under "What the promises rule out" fail. Then what is ruled out for the highest value,
+-- for code maps and for places of faults.
+use Prim.Native.Nat.{ℕ, zero, suc, _-_, _%_, _≤_, _<_}
 use native.Mathlib.Omega.{arith}
+use native.Mathlib.Decide.{ℕ-discrete}
 use mathlib.Core.Path.{_≡_, refl, sym, ap, _∙_, subst}
 use mathlib.Core.Logic.{_≢_, _↔_, ⊎-elim, inr}
 use mathlib.Core.List.{List, [], _∷_, _++_, List·Memᴰ, List·Memᴰ·head, append-nil}
-use mathlib.Core.Option.{Option, some, none}
-use mathlib.Core.Bool.{Bool, true, false, true≢false}
+use mathlib.Core.Option.{Option, some, none, Option·none-ne-some}
+use mathlib.Core.Bool.{Bool, true, false, cond, true≢false}
 use lib.ListN.{length, take, drop, getD, replicate}
 use lib.Seq.{take-append-seam}
 use Rattle.lxtr_spec.specs.Labels.{labelsOf, Pair}
-use Rattle.lxtr_spec.specs.Image.{magic, slotCount, parent}
-use Rattle.lxtr_spec.specs.Refusals.{usedCount, checkOf}
+use Rattle.lxtr_spec.specs.Image.{magic, slotCount, parent, valueNumber}
+use Rattle.lxtr_spec.specs.Refusals.{usedCount, isEnd, checkOf}
+use Rattle.lxtr_spec.specs.HighestValues.{HighestAnswer, highestOf}
 use Rattle.lxtr_spec.specs.Searches.{ExactAnswer, LongestAnswer, ProbeAnswer, exactOf, prefixesOf, longestOf, probeOf}
 use Rattle.lxtr_spec.specs.Completions.{CompletionAnswer, completionOf}
 use Rattle.lxtr_spec.specs.KeyLists.{pairsOf}
@@ -32,11 +34,14 @@ use Rattle.lxtr_demands.specs.Demand2.{Demand2}
 use Rattle.lxtr_demands.specs.Demand3.{Demand3}
 use Rattle.lxtr_demands.specs.Builder.{ByFrequency, RefusedBy, few-words, list-wrong, many-labels, no-base, short-output, Buildable, Demand2Builder}
 use Rattle.lxtr_demands.specs.RightPlaces.{Right}
+use Rattle.lxtr_demands.specs.HighestValue.{HighestValue}
 use Rattle.lxtr_demands.specs.Rows.{computing}
 use Rattle.lxtr_demands.specs.Laws.Demand2.{demand2}
 use Rattle.lxtr_demands.specs.Laws.Demand3.{demand3}
 use Rattle.lxtr_demands.specs.Laws.Builder.{codes-by-frequency, demand2-builder}
 use Rattle.lxtr_demands.specs.Laws.RightPlaces.{fault-right}
+use Rattle.lxtr_demands.specs.Laws.HighestValue.{highest-value}
+use Rattle.lxtr_rows.specs.HighestRows.{p11-300}
 
 -- ---- images: P1, P2, P3 and P11 are images of a set, and P7 to P10 of none
 
@@ -338,6 +343,78 @@ module _ (o : Operations) (meets : Demand2Builder o) where
   one-level-builder-fails low =
       let first : List·Memᴰ {A = Pair} (0x6E ∷ [], 0) (pairsOf keys3) = subst (List·Memᴰ {A = Pair} (0x6E ∷ [], 0)) (sym (builds3 .1)) (List·Memᴰ·head refl) in
       one-level-fails keys3 (blank 14) (blank 141) [] 0x6E 0 first builds (low keys3 (blank 14) (blank 141) builds)
+
+-- ---- the highest value
+
+-- the value of the last end among the slots below n
+unfoldable pub lastEnd : List ℕ → ℕ → Option ℕ
+lastEnd b zero = none
+lastEnd b (suc n) = cond (isEnd b n) (some (valueNumber b n)) (lastEnd b n)
+
+values1 : (highestOf p1 .value ≡ none) × (checkOf p1 .pairs ≡ 0)
+unfolding computing
+values1 = (refl, refl)
+
+values11 : (highestOf p11 .value ≡ some 2) × (lastEnd p11 (slotCount p11) ≡ some 0)
+unfolding computing lastEnd
+values11 = (refl, refl)
+
+p11-300-is-image : IsImage p11-300
+unfolding computing p11-300
+p11-300-is-image = demand3 p11-300 .passes .0 refl
+
+values11-300 : (highestOf p11-300 .value ≡ some 300) × (checkOf p11-300 .pairs ≡ 3)
+unfolding computing p11-300
+values11-300 = (refl, refl)
+
+same-highest : (a b : HighestAnswer) → a .refusal ≡ b .refusal → a .value ≡ b .value → a ≡ b
+same-highest a b k v = λ i. record { refusal = k i; value = v i }
+
+module _ (o : Operations) (meets : (b : List ℕ) → HighestValue o b) where
+  -- Over an image no other answer meets the demand.
+  pub only-highest : (b : List ℕ) → IsImage b → o .highest b ≡ highestOf b
+  only-highest b (d, image) = let (h, is) = meets b .some-highest d image in meets b .answer d h image is ∙ sym (highest-value b .answer d h image is)
+
+  -- And over any bytes, if the program's check refuses them by the number that document 01 gives, or not at all.
+  pub only-highest-refusal : (b : List ℕ) → o .check b .refusal ≡ checkOf b .refusal → o .highest b ≡ highestOf b
+  only-highest-refusal b e = go (ℕ-discrete (checkOf b .refusal) 0)
+    where
+      go : Dec (checkOf b .refusal ≡ 0) → o .highest b ≡ highestOf b
+      go (yes z) = only-highest b (demand3 b .passes .0 z)
+      go (no n) =
+          let mine = meets b .refusal ∙ e in
+          let theirs = highest-value b .refusal in
+          same-highest (o .highest b) (highestOf b) (mine ∙ sym theirs) (meets b .refused (λ z. n (sym mine ∙ z)) ∙ sym (highest-value b .refused (λ z. n (sym theirs ∙ z))))
+
+  value-of : (b : List ℕ) → IsImage b → o .highest b .value ≡ highestOf b .value
+  value-of b image = ap (λ (a : HighestAnswer). a .value) (only-highest b image)
+
+  -- two values that are both said to be the highest
+  same-value : (b : List ℕ) (v w : ℕ) → IsImage b → highestOf b .value ≡ some v → o .highest b .value ≡ some w → v ≡ w
+  unfolding or-1
+  same-value b v w image e f = ap or-1 (sym e ∙ sym (value-of b image) ∙ f)
+
+  -- So these fail: the value of the last end, on P11; the number of pairs less one, on P11 with value 300; the same value for all
+  -- images that have one; a value where there is no pair, on P1; and a value beside a refusal.
+  pub last-end-fails : ((b : List ℕ) → IsImage b → o .highest b .value ≡ lastEnd b (slotCount b)) → ⊥
+  last-end-fails same = omega (arith, same-value p11 2 0 p11-is-image (values11 .0) (same p11 p11-is-image ∙ values11 .1))
+
+  pub pairs-less-one-fail : ((b : List ℕ) → IsImage b → checkOf b .pairs ≢ 0 → o .highest b .value ≡ some (checkOf b .pairs - 1)) → ⊥
+  pairs-less-one-fail same =
+      let is = same p11-300 p11-300-is-image (λ e. omega (arith, e, values11-300 .1)) in
+      omega (arith, same-value p11-300 300 (checkOf p11-300 .pairs - 1) p11-300-is-image (values11-300 .0) is, values11-300 .1)
+
+  pub constant-highest-fails : (v : ℕ) → ((b : List ℕ) → IsImage b → checkOf b .pairs ≢ 0 → o .highest b .value ≡ some v) → ⊥
+  constant-highest-fails v same =
+      let is = same p11 p11-is-image (λ e. omega (arith, e, p11-counts)) in
+      let other = same p11-300 p11-300-is-image (λ e. omega (arith, e, values11-300 .1)) in
+      omega (arith, same-value p11 2 v p11-is-image (values11 .0) is, same-value p11-300 300 v p11-300-is-image (values11-300 .0) other)
+
+  pub value-of-none-fails : (v : ℕ) → ((b : List ℕ) → IsImage b → checkOf b .pairs ≡ 0 → o .highest b .value ≡ some v) → ⊥
+  value-of-none-fails v same = let image = more-images .0 in Option·none-ne-some v (sym (values1 .0) ∙ sym (value-of p1 image) ∙ same p1 image (values1 .1))
+
+  pub refused-value-fails : (b : List ℕ) (v : ℕ) → o .highest b .refusal ≢ 0 → o .highest b .value ≡ some v → ⊥
+  refused-value-fails b v refuses e = Option·none-ne-some v (sym (meets b .refused refuses) ∙ e)
 
 -- ---- code maps
 

@@ -1,18 +1,18 @@
 -- What typing and finishing have to answer, of any program, in terms of the set of pairs of the image and the kana table.
--- Only the statements; that the definitions meet them is `typing-demand` and `typing-in-parts` in Laws/.
+-- Only the statements; that the definitions meet them is `typing-demand` in Laws/Typing.antt, and `typing-in-parts` and
+-- `finishing-after-typing` in Laws/Parts.antt.
 use Prim.Native.Nat.{ℕ, suc, _+_, _*_, _≤_, _<_, _^_}
 use mathlib.Core.Path.{_≡_}
 use mathlib.Core.Logic.{_≢_, _⊎_}
 use mathlib.Core.List.{List, [], _++_}
 use mathlib.Core.Option.{none}
 use lib.ListN.{length, take, drop, getD}
-use Rattle.lxtr_spec.specs.Numbers.{beWords}
 use Rattle.lxtr_spec.specs.Refusals.{imageRefusal}
 use Rattle.lxtr_spec.specs.Sets.{PairSet, Has, ImageOf}
 use Rattle.lxtr_spec.specs.Meaning.{Longer}
 use Rattle.romaji_spec.specs.KanaTables.{textAt}
 use Rattle.romaji_spec.specs.Pieces.{Piece, outgoing}
-use Rattle.romaji_spec.specs.Typing.{keptIn, stateOf, TypingAnswer, refusedBy, wentOut, typeOf, finishOf}
+use Rattle.romaji_spec.specs.Typing.{keptIn, TypingAnswer, refusedBy, wentOut, typeOf, finishOf}
 use Rattle.romaji_spec.specs.declared.State.{State}
 use Rattle.romaji_demands.specs.Cuts.{CutInto, OneCut, TypedAs, Never, FinishedAs}
 

@@ -32,13 +32,13 @@ KeysDiffer p r = p .0 ≢ r .0
 module _ {b : List ℕ} {d : PairSet} (known : KnownImage b d) where
   open KnownImage known using (image, kinds)
 
-  end-counted : (k : List ℕ) (v : ℕ) → Has d k v → (image .end k < slotCount b) × (isEnd b (image .end k) ≡ true)
+  pub end-counted : (k : List ℕ) (v : ℕ) → Has d k v → (image .end k < slotCount b) × (isEnd b (image .end k) ≡ true)
   end-counted k v h =
       let i = image .placed .end-in k v h in
       let used : UsedFrom2 b (image .end k) = (i .0, λ z. omega (arith, image .placed .end-parent k v h, prefix-slot image k (prefix-key d k v h) .from)) in
       (i .1, end-is b (image .end k) .1 (used, image .placed .end-leaf k v h .0))
 
-  counted-end : {s : ℕ} → KindIn image s → UsedFrom2 b s → isLeaf b s ≡ true → (k : List ℕ) × (v : ℕ) × Has d k v × (image .end k ≡ s)
+  pub counted-end : {s : ℕ} → KindIn image s → UsedFrom2 b s → isLeaf b s ≡ true → (k : List ℕ) × (v : ℕ) × Has d k v × (image .end k ≡ s)
   counted-end root u t = absurd (omega arith)
   counted-end (inner p x f) u t = absurd (true≢false (sym t ∙ image .placed .slot-inner (p ++ x ∷ []) f))
   counted-end (leaf k v h) u t = (k, v, h, refl)

@@ -35,7 +35,7 @@ use Rattle.lxtr_laws.specs.ReadBack.{be-words}
 use Rattle.lxtr_demands.specs.Laws.BuiltImages.{scalar-small}
 
 -- a query written for these labels has these labels
-labels-back : (k : List ℕ) → ((i : ℕ) → i < length k → getD k i 0 < 2 ^ 32) → labelsOf (beWords k) ≡ k
+pub labels-back : (k : List ℕ) → ((i : ℕ) → i < length k → getD k i 0 < 2 ^ 32) → labelsOf (beWords k) ≡ k
 labels-back k small =
     let count : length (labelsOf (beWords k)) ≡ length k = omega (arith, label-count (beWords k), words-length k) in
     ext-getD 0 (labelsOf (beWords k)) k count (λ i h.
