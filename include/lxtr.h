@@ -179,10 +179,10 @@ uint64_t lxtr_check(const uint8_t *image, size_t image_length);
 uint64_t lxtr_fault(const uint8_t *image, size_t image_length);
 
 /*
- * Finds the highest value of the keys of an image: whether there is one, and the value as the number. Only an image without keys
- * has none. So a table that the host keeps beside the image, with a row for each value from 0, is long enough if it has a row for
- * this one; an image from another builder may have higher values than it has keys. Refusals: 1 to 12, in this order. Each call
- * checks the whole image.
+ * Finds the highest value of an image's keys: whether there is one, and the value as the number. Only an image without keys has
+ * none. A table that the host keeps beside the image, with a row for each value from 0, is long enough for every key if it has a
+ * row for this value. An image from another builder may have values far above its number of keys. Refusals: 1 to 12, in this
+ * order. Each call checks the whole image.
  */
 uint64_t lxtr_highest(const uint8_t *image, size_t image_length);
 

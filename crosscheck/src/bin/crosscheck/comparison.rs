@@ -130,12 +130,13 @@ impl Comparison {
         }
     }
 
-    /// Compares the place of an image's fault, its highest value and its check. Returns the
-    /// check's answer.
+    /// Compares the place of an image's fault, its check and its highest value. Returns the check's
+    /// answer.
     pub fn check(&mut self, image: &[u8]) -> u64 {
         self.call(Call::Fault { image });
+        let answer = self.call(Call::Check { image });
         self.call(Call::Highest { image });
-        self.call(Call::Check { image })
+        answer
     }
 
     /// Compares the check of an image, and then its answer with the set oracle.
