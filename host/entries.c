@@ -1,7 +1,7 @@
 /*
  * entries: calls each function of lxtr.h on a dictionary of two words, n (value 0) and na (value 1), and then on the same image
- * with one child changed in the children lists. Every lookup still succeeds. Only lxtr_check, lxtr_fault and lxtr_complete notice
- * the fault.
+ * with one child changed in the children lists. Every lookup still succeeds. Only lxtr_check, lxtr_fault, lxtr_highest and
+ * lxtr_complete notice the fault.
  *
  *     entries
  */
@@ -46,6 +46,7 @@ static void show_answers(const uint8_t *image, size_t length)
 
 	show("check", lxtr_check(image, length));
 	show_fault(lxtr_fault(image, length));
+	show("highest", lxtr_highest(image, length));
 	show("exact na", lxtr_exact(image, length, text, NA));
 	show("exact (empty)", lxtr_exact(image, length, NULL, 0));
 	show("probe n", lxtr_probe(image, length, text, N));

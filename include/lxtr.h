@@ -28,8 +28,8 @@
  * - Lent memory is memory that a function writes: places, room, work, out. It must not overlap anything else that is passed in
  *   the same call. Memory that is only read may overlap.
  * - It keeps no pointer after it returns, allocates nothing and has no state of its own, so any number of threads may call it.
- * - Stack, measured on x86-64: at most about 490 KB for lxtr_build, 33 KB for lxtr_fault, 17 KB for lxtr_check and
- *   lxtr_complete, 1 KB for the others.
+ * - Stack, measured on x86-64: at most about 490 KB for lxtr_build, 33 KB for lxtr_fault, 17 KB for lxtr_check,
+ *   lxtr_highest and lxtr_complete, 1 KB for the others.
  *
  * WHAT AN ANSWER MEANS
  *
@@ -98,7 +98,7 @@ enum lxtr_reason {
 	LXTR_WRONG_MAP = 7,            /* M is below 5, the version of the code map is not 1, L is above 4,095, or M is not 5 + 4 L */
 	LXTR_WRONG_OFFSET_ENDS = 8,    /* the first offset is not 0, or the last is not E */
 
-	/* of an image, by lxtr_check, lxtr_fault and lxtr_complete, in this order */
+	/* of an image, by lxtr_check, lxtr_fault, lxtr_highest and lxtr_complete, in this order */
 	LXTR_WRONG_LABELS = 9,         /* a listed label is not a scalar value, or is listed twice */
 	LXTR_WRONG_SLOTS = 10,         /* a slot does not fit its parent or its end, or is unused and not zero; all searches read slots */
 	LXTR_WRONG_LISTS = 11,         /* a children list does not fit the slots; lxtr_complete reads lists, lxtr_probe their lengths */
@@ -177,6 +177,14 @@ uint64_t lxtr_check(const uint8_t *image, size_t image_length);
  * the enum, each only if no earlier one is found.
  */
 uint64_t lxtr_fault(const uint8_t *image, size_t image_length);
+
+/*
+ * Finds the highest value of an image's keys: whether there is one, and the value as the number. Only an image without keys has
+ * none. A table that the host keeps beside the image, with a row for each value from 0, is long enough for every key if it has a
+ * row for this value. An image from another builder may have values far above its number of keys. Refusals: 1 to 12, in this
+ * order. Each call checks the whole image.
+ */
+uint64_t lxtr_highest(const uint8_t *image, size_t image_length);
 
 /*
  * Looks up a key: whether it has a value, and the value as the number. A query of more than 64 labels has no value.

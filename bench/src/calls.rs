@@ -1,7 +1,8 @@
 //! The archive's C functions, called with slices instead of pointers and lengths.
 
 use crate::functions::{
-    lxtr_build, lxtr_check, lxtr_complete, lxtr_exact, lxtr_longest, lxtr_prefixes, lxtr_probe,
+    lxtr_build, lxtr_check, lxtr_complete, lxtr_exact, lxtr_highest, lxtr_longest, lxtr_prefixes,
+    lxtr_probe,
 };
 
 // SAFETY of every call below: a slice is valid for its length, and one lent by
@@ -9,6 +10,10 @@ use crate::functions::{
 
 pub fn check(image: &[u8]) -> u64 {
     unsafe { lxtr_check(image.as_ptr(), image.len()) }
+}
+
+pub fn highest(image: &[u8]) -> u64 {
+    unsafe { lxtr_highest(image.as_ptr(), image.len()) }
 }
 
 pub fn exact(image: &[u8], query: &[u8]) -> u64 {

@@ -18,6 +18,7 @@ const PARSED: &str = "Rust, image parsed before";
 #[derive(Clone, Copy)]
 pub enum Operation {
     Check,
+    Highest,
     ExactPresent,
     ExactAbsent,
     Prefixes,
@@ -29,8 +30,9 @@ pub enum Operation {
 }
 
 impl Operation {
-    pub const ALL: [Operation; 9] = [
+    pub const ALL: [Operation; 10] = [
         Operation::Check,
+        Operation::Highest,
         Operation::ExactPresent,
         Operation::ExactAbsent,
         Operation::Prefixes,
@@ -45,6 +47,7 @@ impl Operation {
     pub fn title(self) -> &'static str {
         match self {
             Operation::Check => "check: a call checks the image",
+            Operation::Highest => "highest: a call checks the image and finds its highest value",
             Operation::ExactPresent => "exact, present: a call looks up a key of the list",
             Operation::ExactAbsent => "exact, absent: a call looks up a reading that is no key",
             Operation::Prefixes => "prefixes: a call finds all keys at a position of a text",
@@ -64,7 +67,7 @@ impl Operation {
             on.dictionaries.iter().map(size).sum::<usize>() as f64 / on.dictionaries.len() as f64
         };
         match self {
-            Operation::Check => ("B", mean(|of| of.image.len())),
+            Operation::Check | Operation::Highest => ("B", mean(|of| of.image.len())),
             Operation::CompleteAll | Operation::Build => (" keys", mean(|of| of.keys.len())),
             _ => (" queries", 1.0),
         }
@@ -74,6 +77,7 @@ impl Operation {
     pub fn contestants(self, on: &Workload) -> Contestants<'_> {
         match self {
             Operation::Check => check(on),
+            Operation::Highest => highest(on),
             Operation::ExactPresent => exact(&searches(on, slices(&on.present))),
             Operation::ExactAbsent => exact(&searches(on, slices(&on.absent))),
             Operation::Prefixes => prefixes(on),
@@ -93,6 +97,16 @@ fn check(on: &Workload) -> Contestants<'_> {
         |call, _| calls::check(&call.of.image),
         |call, _| answers::check(RULES, &call.of.image),
         |call, _| call.of.parsed.check(),
+    )
+}
+
+fn highest(on: &Workload) -> Contestants<'_> {
+    three(
+        &in_turn(on, vec![&[]; on.dictionaries.len()]),
+        &Lent::default(),
+        |call, _| calls::highest(&call.of.image),
+        |call, _| answers::highest(RULES, &call.of.image),
+        |call, _| call.of.parsed.highest(),
     )
 }
 

@@ -1,6 +1,7 @@
 //! The independent implementation over an image that is already parsed: the
 //! functions of `crosscheck::answers` without their first step.
 
+use crosscheck::answers::value_number;
 use crosscheck::check::accept;
 use crosscheck::common::{labels_in, Refusal};
 use crosscheck::image::Image;
@@ -8,7 +9,6 @@ use crosscheck::rules::Rules;
 
 const RULES: Rules = Rules::DOCUMENT;
 const MORE: u64 = 1 << 33;
-const VALUE: u64 = 1 << 32;
 
 pub struct Parsed(Image);
 
@@ -22,6 +22,10 @@ impl Parsed {
             return refused;
         }
         self.0.nodes.iter().filter(|node| node.is_leaf()).count() as u64
+    }
+
+    pub fn highest(&self) -> u64 {
+        self.refusal().unwrap_or_else(|| value_number(self.0.highest(RULES)))
     }
 
     pub fn exact(&self, query: &[u8]) -> u64 {
@@ -62,8 +66,4 @@ impl Parsed {
     fn refusal(&self) -> Option<u64> {
         accept(RULES, &self.0).err().map(|Refusal(number)| u64::from(number) << 40)
     }
-}
-
-fn value_number(value: Option<u32>) -> u64 {
-    value.map_or(0, |value| VALUE + u64::from(value))
 }

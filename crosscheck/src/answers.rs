@@ -1,4 +1,4 @@
-//! The eight functions in the archive's form: bytes and lent memory in, one
+//! The nine functions in the archive's form: bytes and lent memory in, one
 //! number out. That number is refusal * 2^40 plus what the function found.
 
 use crate::builder;
@@ -6,6 +6,7 @@ use crate::check;
 use crate::common::{Refusal, KEY_LABELS};
 use crate::completion;
 use crate::fault;
+use crate::highest;
 use crate::rules::{Rules, Wrong};
 use crate::search;
 
@@ -25,7 +26,8 @@ fn number<T>(result: Result<T, Refusal>, found: impl FnOnce(T) -> u64) -> u64 {
     }
 }
 
-fn value_number(value: Option<u32>) -> u64 {
+/// The number of a value or none.
+pub fn value_number(value: Option<u32>) -> u64 {
     value.map_or(0, |value| VALUE + u64::from(value))
 }
 
@@ -45,6 +47,10 @@ pub fn fault(rules: Rules, image: &[u8]) -> u64 {
     fault::fault(rules, image).map_or(0, |fault| {
         u64::from(fault.refusal) * REFUSAL + u64::from(fault.part) * PART + u64::from(fault.place)
     })
+}
+
+pub fn highest(rules: Rules, image: &[u8]) -> u64 {
+    number(highest::highest(rules, image), value_number)
 }
 
 pub fn exact(rules: Rules, image: &[u8], query: &[u8]) -> u64 {

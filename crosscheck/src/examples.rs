@@ -35,6 +35,10 @@ fn checked(image: &Image) -> u64 {
     answers::check(DOCUMENT, &image.to_bytes())
 }
 
+fn highest(image: &Image) -> u64 {
+    answers::highest(DOCUMENT, &image.to_bytes())
+}
+
 /// Refusal, part and place of its fault.
 fn fault(image: &Image) -> Option<(u8, u8, u32)> {
     let fault = fault::fault(DOCUMENT, &image.to_bytes());
@@ -175,6 +179,19 @@ fn faults_of_lists() {
     let mut image = built(&[]);
     image.nodes[1].base = 5;
     assert_eq!(fault(&image), Some((11, 5, 1)));
+}
+
+#[test]
+fn highest_values() {
+    assert_eq!(highest(&built(&[])), 0);
+    assert_eq!(highest(&built(&[&[]])), VALUE);
+    assert_eq!(highest(&p3()), VALUE + 1);
+    let mut image = built(&[&[0x61], &[0x62], &[0x62, 0x62]]);
+    assert_eq!(highest(&image), VALUE + 2);
+    image.nodes[2].base = 0x8000_0000 | 300;
+    assert_eq!(highest(&image), VALUE + 300);
+    image.lists.children.swap(0, 1);
+    assert_eq!(highest(&image), refused(11));
 }
 
 #[test]

@@ -16,6 +16,7 @@ pub mod check;
 pub mod common;
 pub mod completion;
 pub mod fault;
+pub mod highest;
 pub mod image;
 pub mod keylist;
 pub mod listing;

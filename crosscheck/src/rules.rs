@@ -88,6 +88,12 @@ wrong_variants! {
     LastPlaceTold: "the last place at fault is told",
     EntryWithinItsList: "a wrong entry is told by its place in its list",
     UnlistedBeforeEntries: "a slot in no list is told before a wrong entry",
+    // The highest value.
+    LastPairIsHighest: "the highest value is that of the last pair",
+    CountLessOneHighest: "the highest value is the number of pairs less one",
+    NoPairHasValue0: "the highest value of no pairs is 0",
+    BasesAreValues: "the bases of prefixes count as values",
+    HighestPasses12: "an image that 12 refuses has a highest value",
     // The searches.
     QueryBeforeImage: "refusal 13 is tested before 1 to 8",
     WholeCheckCompared: "the whole check word is compared with the parent",

@@ -8,16 +8,18 @@ use lib.ListN.{length}
 use lib.Seq.{length-take-le}
 use Rattle.lxtr_spec.specs.Refusals.{unlessRefused, checkOf}
 use Rattle.lxtr_spec.specs.FaultPlaces.{faultOf}
+use Rattle.lxtr_spec.specs.HighestValues.{highestOf}
 use Rattle.lxtr_spec.specs.Searches.{exactOf, prefixesOf, LongestAnswer, longestLength, longestOf, probeOf}
 use Rattle.lxtr_spec.specs.Completions.{CompletionAnswer, completionOf}
 use Rattle.lxtr_spec.specs.Builds.{BuildAnswer, buildOf}
-use Rattle.lxtr_spec.specs.Answers.{found, exactMeans, probeMeans}
-use Rattle.lxtr_spec.specs.HostNumbers.{hostNumber, valueNumbered, faultNumbered, checkNumber, faultNumber, exactNumber, probeNumber, longestNumber, HostPrefixes, alternately, atFront, prefixesNumber, placesAfter, hostPrefixesOf, HostCompletion, completionNumber, hostCompletionOf, HostBuild, builtNumber, hostBuildOf}
+use Rattle.lxtr_spec.specs.Answers.{found, exactMeans, probeMeans, highestMeans}
+use Rattle.lxtr_spec.specs.HostNumbers.{hostNumber, valueNumbered, faultNumbered, checkNumber, faultNumber, highestNumber, exactNumber, probeNumber, longestNumber, HostPrefixes, alternately, atFront, prefixesNumber, placesAfter, hostPrefixesOf, HostCompletion, completionNumber, hostCompletionOf, HostBuild, builtNumber, hostBuildOf}
 use Rattle.lxtr_laws.specs.Limit.{length-fits-byte}
 use Rattle.lxtr_laws.specs.RefusalChains.{stands}
 use Rattle.lxtr_search.specs.Kept.{longest-bytes, longest-limit}
 use Rattle.lxtr_spec.specs.declared.Verdict.{Verdict}
 use Rattle.lxtr_spec.specs.declared.Fault.{Fault}
+use Rattle.lxtr_spec.specs.declared.Highest.{Highest}
 use Rattle.lxtr_spec.specs.declared.Exact.{Exact}
 use Rattle.lxtr_spec.specs.declared.Prefixes.{Prefixes}
 use Rattle.lxtr_spec.specs.declared.Probe.{Probe}
@@ -32,6 +34,10 @@ module _ (b : List ℕ) where
   pub check-number : (v : Verdict) (n : ℕ) → v ≡ checkOf b → n ≡ hostNumber (v .refusal) false false (v .pairs) → n ≡ checkNumber b
   unfolding checkNumber
   check-number v n e h = rw (← e) h
+
+  pub highest-number : (a : Highest) (n : ℕ) → highestMeans a ≡ highestOf b → n ≡ valueNumbered (a .refusal) false (found (a .value)) → n ≡ highestNumber b
+  unfolding highestNumber
+  highest-number a n e h = rw (← e) h
 
   module _ (q : List ℕ) where
     pub exact-number : (a : Exact) (n : ℕ) → exactMeans a ≡ exactOf b q → n ≡ valueNumbered (a .refusal) false (found (a .value)) → n ≡ exactNumber b q

@@ -1,11 +1,12 @@
 // The functions for programs in C and Rust: each operation under a plain name, with slices passed as pointer and length, and one
 // 64-bit number as the answer. `include/lxtr.h` declares them and says what each number means.
 ghost use mathlib.Core.Path.{_≡_};
-ghost use Rattle.lxtr_spec.specs.HostNumbers.{checkNumber, faultNumber, exactNumber, probeNumber, longestNumber, hostPrefixesOf, hostCompletionOf, hostBuildOf};
+ghost use Rattle.lxtr_spec.specs.HostNumbers.{checkNumber, faultNumber, highestNumber, exactNumber, probeNumber, longestNumber, hostPrefixesOf, hostCompletionOf, hostBuildOf};
 use lxtr_build::build;
 use lxtr_check::check;
 use lxtr_complete::complete;
 use lxtr_fault::fault;
+use lxtr_highest::highest;
 use lxtr_host::numbers::fault_numbered;
 use lxtr_host::numbers::host_number;
 use lxtr_host::numbers::value_numbered;
@@ -31,6 +32,16 @@ pub extern "C" fn lxtr_fault(image: &[u8]) -> u64
     ensures { λ r. ⌜ r ≡ faultNumber (now (image .entry)) ⌝ }
 {
     fault_numbered(fault(image))
+}
+
+// The highest value of the image's set, if it has a pair.
+#[no_mangle]
+pub extern "C" fn lxtr_highest(image: &[u8]) -> u64
+    ensures { λ r. ⌜ r ≡ highestNumber (now (image .entry)) ⌝ }
+{
+    let answer = highest(image);
+    let value = answer.value;
+    value_numbered(answer.refusal, false, value)
 }
 
 // Exact: the value, if there is one.

@@ -1,8 +1,8 @@
 -- The highest value number: over an image it is that of the image's set of pairs, and what is refused is what the check refuses.
 -- Only the statement, of any program; that the definitions meet it is `highest-value` in Laws/HighestValue.antt.
+use Prim.Native.Nat.{ℕ}
 use mathlib.Core.Path.{_≡_}
 use mathlib.Core.Logic.{_≢_}
-use Prim.Native.Nat.{ℕ}
 use mathlib.Core.List.{List}
 use mathlib.Core.Option.{Option, none}
 use Rattle.lxtr_spec.specs.Sets.{PairSet, ImageOf}

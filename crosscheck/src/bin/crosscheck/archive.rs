@@ -2,8 +2,8 @@
 
 use crate::call::{number_of_text, Call};
 use crate::functions::{
-    lxtr_build, lxtr_check, lxtr_complete, lxtr_exact, lxtr_fault, lxtr_longest, lxtr_prefixes,
-    lxtr_probe,
+    lxtr_build, lxtr_check, lxtr_complete, lxtr_exact, lxtr_fault, lxtr_highest, lxtr_longest,
+    lxtr_prefixes, lxtr_probe,
 };
 use crate::lent::Lent;
 use std::io::Write;
@@ -91,6 +91,7 @@ impl Archive {
             match call {
                 Call::Check { .. } => lxtr_check(a, a_len),
                 Call::Fault { .. } => lxtr_fault(a, a_len),
+                Call::Highest { .. } => lxtr_highest(a, a_len),
                 Call::Exact { .. } => lxtr_exact(a, a_len, b, b_len),
                 Call::Probe { .. } => lxtr_probe(a, a_len, b, b_len),
                 Call::Longest { .. } => lxtr_longest(a, a_len, b, b_len),

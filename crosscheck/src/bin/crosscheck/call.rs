@@ -9,6 +9,7 @@ use crosscheck::{answers, listing};
 pub enum Function {
     Check,
     Fault,
+    Highest,
     Exact,
     Probe,
     Longest,
@@ -19,9 +20,10 @@ pub enum Function {
 }
 
 impl Function {
-    pub const ALL: [Function; 9] = [
+    pub const ALL: [Function; 10] = [
         Function::Check,
         Function::Fault,
+        Function::Highest,
         Function::Exact,
         Function::Probe,
         Function::Longest,
@@ -32,14 +34,16 @@ impl Function {
     ];
 
     pub fn name(self) -> &'static str {
-        ["check", "fault", "exact", "probe", "longest", "prefixes", "complete", "build", "list"]
-            [self as usize]
+        [
+            "check", "fault", "highest", "exact", "probe", "longest", "prefixes", "complete",
+            "build", "list",
+        ][self as usize]
     }
 
     /// Whether this function can give this refusal.
     pub fn can_refuse(self, number: usize) -> bool {
         match self {
-            Function::Check => (1..=12).contains(&number),
+            Function::Check | Function::Highest => (1..=12).contains(&number),
             Function::Fault => (9..=12).contains(&number),
             Function::Complete => (1..=14).contains(&number),
             Function::Build => (15..=23).contains(&number),
@@ -54,6 +58,7 @@ impl Function {
 pub enum Call<'a> {
     Check { image: &'a [u8] },
     Fault { image: &'a [u8] },
+    Highest { image: &'a [u8] },
     Exact { image: &'a [u8], query: &'a [u8] },
     Probe { image: &'a [u8], query: &'a [u8] },
     Longest { image: &'a [u8], query: &'a [u8] },
@@ -68,6 +73,7 @@ impl<'a> Call<'a> {
         match self {
             Call::Check { .. } => Function::Check,
             Call::Fault { .. } => Function::Fault,
+            Call::Highest { .. } => Function::Highest,
             Call::Exact { .. } => Function::Exact,
             Call::Probe { .. } => Function::Probe,
             Call::Longest { .. } => Function::Longest,
@@ -81,7 +87,7 @@ impl<'a> Call<'a> {
     /// The read-only inputs; the second is empty if there is none.
     pub fn inputs(&self) -> (&'a [u8], &'a [u8]) {
         match *self {
-            Call::Check { image } | Call::Fault { image } => (image, &[]),
+            Call::Check { image } | Call::Fault { image } | Call::Highest { image } => (image, &[]),
             Call::Exact { image, query }
             | Call::Probe { image, query }
             | Call::Longest { image, query } => (image, query),
@@ -108,6 +114,7 @@ impl<'a> Call<'a> {
         match *self {
             Call::Check { image } => answers::check(rules, image),
             Call::Fault { image } => answers::fault(rules, image),
+            Call::Highest { image } => answers::highest(rules, image),
             Call::Exact { image, query } => answers::exact(rules, image, query),
             Call::Probe { image, query } => answers::probe(rules, image, query),
             Call::Longest { image, query } => answers::longest(rules, image, query),

@@ -4,6 +4,7 @@
 use crate::archive::{Answered, Archive};
 use crate::call::{Call, Function};
 use crate::lent::Lent;
+use crosscheck::answers::value_number;
 use crosscheck::common::query_of;
 use crosscheck::image::Image;
 use crosscheck::oracle::{self, Pair};
@@ -129,10 +130,13 @@ impl Comparison {
         }
     }
 
-    /// Compares the check of an image and the place of its fault. Returns the check's answer.
+    /// Compares the place of an image's fault, its check and its highest value. Returns the check's
+    /// answer.
     pub fn check(&mut self, image: &[u8]) -> u64 {
         self.call(Call::Fault { image });
-        self.call(Call::Check { image })
+        let answer = self.call(Call::Check { image });
+        self.call(Call::Highest { image });
+        answer
     }
 
     /// Compares the check of an image, and then its answer with the set oracle.
@@ -160,8 +164,13 @@ impl Comparison {
         answer
     }
 
-    /// Completing the empty prefix with enough room must list exactly the set.
+    /// The highest value must be that of the set, and completing the empty prefix with enough room
+    /// must list exactly the set.
     fn whole_set(&mut self, image: &[u8], set: &[Pair]) {
+        let call = Call::Highest { image };
+        let answered = self.archive.answer(&call, &mut self.real);
+        call.prepare(&mut self.expected);
+        self.score(&call, &answered, value_number(set.iter().map(|pair| pair.value).max()));
         let mut records = vec![1];
         records.extend(query_of(&[set.len() as u32]));
         for pair in set {

@@ -6,6 +6,7 @@
 extern "C" {
     pub fn lxtr_check(image: *const u8, image_len: usize) -> u64;
     pub fn lxtr_fault(image: *const u8, image_len: usize) -> u64;
+    pub fn lxtr_highest(image: *const u8, image_len: usize) -> u64;
     pub fn lxtr_exact(
         image: *const u8,
         image_len: usize,

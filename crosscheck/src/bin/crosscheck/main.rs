@@ -3,9 +3,10 @@
 //! Every comparison is one call of a library function, or one run of the listing
 //! program, and the independent answer to it: the 64-bit number, every byte and
 //! word of lent memory with guard zones around it, or the program's text. Besides
-//! that, the check and the completion of the empty prefix are compared with the
-//! set oracle, and wrong variants of the independent implementation take part in
-//! the same comparisons: each must be noticed by a difference.
+//! that, the check, the highest value and the completion of the empty prefix are
+//! compared with the set oracle, and wrong variants of the independent
+//! implementation take part in the same comparisons: each must be noticed by a
+//! difference.
 //!
 //! Run with `cargo run --release --offline`, in this package's folder, after the
 //! archive `../target/staticlib/liblxtr_c.a` and the listing program
