@@ -5,3 +5,4 @@ pub mod NextPieces
 pub mod Progress
 pub mod Counting
 pub mod Writing
+pub mod Answering

@@ -37,7 +37,7 @@ module _ (keeping : Bool) (b kana kept typed room : List ℕ) where
   unfolding beWords
   write-start l e = record { size = e ∙ sym (length-append kept typed); done = []; counts = refl; put = sym (over-none room 0); same = refl; so-far = reached-start keeping b kana (kept ++ typed) }
 
-  module _ (large : 4 * length (outOf keeping b kana (kept ++ typed)) ≤ length room) (l at count : ℕ) (room′ : List ℕ) (before : Wrote keeping b kana kept typed room l at count room′) where
+  module _ (l at count : ℕ) (room′ : List ℕ) (before : Wrote keeping b kana kept typed room l at count room′) where
     open Wrote before using (done, so-far)
 
     pub write-here : at < l → at < length kept + length typed
@@ -53,17 +53,20 @@ module _ (keeping : Bool) (b kana kept typed room : List ℕ) where
       pub write-stop : n ≡ 0 → Converts keeping b kana (kept ++ typed) room at count room′
       write-stop z = converted (reached-stop keeping b kana (kept ++ typed) at done so-far (stay-none keeping b kana (drop at (kept ++ typed)) n o next z))
 
-      module _ (moves : n ≢ 0) (here : at < l) (x : ℕ) (read : x ≡ getD (kept ++ typed) at 0) where
-        after : Reached keeping b kana (kept ++ typed) (at + n) (done ++ outBy kana x o)
-        after = rw read (reached-next keeping b kana (kept ++ typed) at done so-far n o (omega (arith, before .size)) next moves)
+      module _ (large : 4 * length (outOf keeping b kana (kept ++ typed)) ≤ length room) (moves : n ≢ 0) (here : at < l) where
+        abbrev piece : List ℕ
+        piece = outBy kana (getD (kept ++ typed) at 0) o
 
-        more : length (done ++ outBy kana x o) ≡ count + length (outBy kana x o)
-        more = omega (arith, length-append done (outBy kana x o), before .counts)
+        after : Reached keeping b kana (kept ++ typed) (at + n) (done ++ piece)
+        after = reached-next keeping b kana (kept ++ typed) at done so-far n o (omega (arith, before .size)) next moves
 
-        within : 4 * (count + length (outBy kana x o)) ≤ length room
-        within = omega (arith, more, ap length (after .gone), length-append (done ++ outBy kana x o) (outOf keeping b kana (drop (at + n) (kept ++ typed))))
+        more : length (done ++ piece) ≡ count + length piece
+        more = omega (arith, length-append done piece, before .counts)
 
-        pub write-room : 4 * (count + length (outBy kana x o)) ≤ length room′
+        within : 4 * (count + length piece) ≤ length room
+        within = omega (arith, more, ap length (after .gone), length-append (done ++ piece) (outOf keeping b kana (drop (at + n) (kept ++ typed))))
+
+        pub write-room : 4 * (count + length piece) ≤ length room′
         write-room = omega (arith, within, before .same)
 
         pub write-less : l - (at + n) < l - at
@@ -72,19 +75,19 @@ module _ (keeping : Bool) (b kana kept typed room : List ℕ) where
         pub write-fits : Fits w64 l → Fits w64 (at + n)
         write-fits f = omega (arith, after .to, before .size)
 
-        pub write-next : (count′ : ℕ) (room″ : List ℕ) → count′ ≡ count + length (outBy kana x o) → room″ ≡ over room′ (4 * count) (beWords (outBy kana x o))
+        pub write-next : (count′ : ℕ) (room″ : List ℕ) → count′ ≡ count + length piece → room″ ≡ over room′ (4 * count) (beWords piece)
             → Wrote keeping b kana kept typed room l (at + n) count′ room″
         write-next count′ room″ c e =
             let size = words-size big done in
-            let size′ = words-size big (outBy kana x o) in
+            let size′ = words-size big piece in
             let w = within in
             let s = before .same in
             let k = before .counts in
             record {
               size = before .size;
-              done = done ++ outBy kana x o;
+              done = done ++ piece;
               counts = c ∙ sym more;
-              put = e ∙ rw (before .put, words-append big done (outBy kana x o)) (over-over room 0 (beWords done) (beWords (outBy kana x o)) (4 * count) (omega arith) (omega arith));
-              same = ap length e ∙ over-length room′ (4 * count) (beWords (outBy kana x o)) (omega arith) ∙ s;
+              put = e ∙ rw (before .put, words-append big done piece) (over-over room 0 (beWords done) (beWords piece) (4 * count) (omega arith) (omega arith));
+              same = ap length e ∙ over-length room′ (4 * count) (beWords piece) (omega arith) ∙ s;
               so-far = after;
             }

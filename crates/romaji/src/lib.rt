@@ -10,15 +10,14 @@ ghost use mathlib.Core.Bool.{false};
 ghost use Prim.Native.Nat.{_*_, _≤_, min};
 ghost use lib.ListN.{length};
 ghost use lib.Dec.{leb};
-ghost use Rattle.romaji_spec.specs.Pieces.{maxKept};
-ghost use Rattle.romaji_spec.specs.Typing.{hasEmptyKey, tableRefusal, convert, typeOf, finishOf};
+ghost use Rattle.romaji_spec.specs.Pieces.{maxKept, cut};
+ghost use Rattle.romaji_spec.specs.Typing.{hasEmptyKey, tableRefusal, answered, convert, typeOf, finishOf};
 ghost use Rattle.romaji.specs.Progress.{outOf};
 ghost use Rattle.romaji.specs.Writing.{Converts};
 use crate::pieces::next_piece;
 use crate::pieces::out_count;
 use crate::pieces::put_piece;
 use crate::tables::table_short;
-use crate::texts::byte_of;
 use crate::texts::rest_kept;
 use crate::texts::text_length;
 use lxtr_highest::highest;
@@ -113,7 +112,7 @@ fn put_pieces(
             break;
         }
         let value = next.value;
-        count = put_piece(kana, value, byte_of(kept, typed, at), room, count);
+        count = put_piece(kana, value, kept, typed, at, room, count);
         at += next.length;
     }
     Converted { at, count }
@@ -125,6 +124,34 @@ fn kept_count(count: u8) -> usize
 {
     let bytes = count as usize;
     if bytes < MAX_KEPT { bytes } else { MAX_KEPT }
+}
+
+// Converts a text, of which `kept` is what the state keeps, if there is room.
+fn convert_text(
+    image: &[u8],
+    kana: &[u8],
+    state: State,
+    kept: &[u8],
+    typed: &[u8],
+    room: &mut [u8],
+    keeping: bool,
+) -> Typed
+    requires { ⌜ hasEmptyKey (now image) ≡ false ⌝ }
+    ensures { λ r. ⌜ record { answer = r; room = now (room .exit) } ≡ answered (now (kana .entry)) state (now (room .entry)) (cut keeping (now (image .entry)) (now (kept .entry) ++ now (typed .entry))) ⌝ }
+{
+    if !fits(image, kana, kept, typed, keeping, room.len() / 4) {
+        return Typed {
+            refusal: NO_ROOM,
+            count: 0,
+            state,
+        };
+    }
+    let done = put_pieces(image, kana, kept, typed, keeping, room);
+    Typed {
+        refusal: 0,
+        count: done.count,
+        state: rest_kept(kept, typed, done.at),
+    }
 }
 
 // Converts what the state keeps and what is typed.
@@ -148,29 +175,11 @@ fn convert(
     }
     let bytes = state.kept;
     let count = kept_count(state.count);
-    if !fits(image, kana, &bytes[..count], typed, keeping, room.len() / 4) {
-        return Typed {
-            refusal: NO_ROOM,
-            count: 0,
-            state,
-        };
-    }
-    let done = put_pieces(image, kana, &bytes[..count], typed, keeping, room);
-    Typed {
-        refusal: 0,
-        count: done.count,
-        state: rest_kept(&bytes[..count], typed, done.at),
-    }
+    convert_text(image, kana, state, &bytes[..count], typed, room, keeping)
 }
 
 // Types bytes: the kana of what is kept and typed goes out, from the room's front. A rest that could still grow is kept.
-pub fn type_bytes(
-    image: &[u8],
-    kana: &[u8],
-    state: State,
-    typed: &[u8],
-    room: &mut [u8],
-) -> Typed
+pub fn type_bytes(image: &[u8], kana: &[u8], state: State, typed: &[u8], room: &mut [u8]) -> Typed
     ensures { λ r. ⌜ record { answer = r; room = now (room .exit) } ≡ typeOf (now (image .entry)) (now (kana .entry)) state (now (typed .entry)) (now (room .entry)) ⌝ }
 {
     convert(image, kana, state, typed, room, true)

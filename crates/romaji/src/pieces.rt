@@ -3,7 +3,7 @@ ghost use mathlib.Core.Path.{_≡_};
 ghost use mathlib.Core.List.{_++_};
 ghost use mathlib.Core.Bool.{false, _&&_};
 ghost use Prim.Native.Nat.{_+_, _*_, _≤_, _<_, min};
-ghost use lib.ListN.{length, drop};
+ghost use lib.ListN.{length, getD, drop};
 ghost use Rattle.lxtr_spec.specs.Numbers.{beWords};
 ghost use Rattle.lxtr_spec.specs.Labels.{maxLabels, labelsOf};
 ghost use Rattle.lxtr_spec.specs.Searches.{probeOf};
@@ -12,6 +12,7 @@ ghost use Rattle.lxtr_laws.specs.Overlays.{over};
 ghost use Rattle.romaji_spec.specs.Typing.{hasEmptyKey};
 ghost use Rattle.romaji.specs.NextPieces.{Looked, FrontIs, NextIs, outBy};
 use crate::tables::text_bytes;
+use crate::texts::put_label;
 use crate::texts::put_query;
 use crate::texts::text_length;
 use lxtr_bytes::labels::label_at;
@@ -120,18 +121,27 @@ fn put_text(text: &[u8], room: &mut [u8], at: usize)
     }
 }
 
-// Writes the labels that go out for a piece into the room, starting at label `at`: the text of a value, or the byte x. Returns
-// the place after them.
-pub fn put_piece(kana: &[u8], value: Found, x: u8, room: &mut [u8], at: usize) -> usize
-    requires { ⌜ 4 * (at + length (outBy (now kana) x (found value))) ≤ length (now room) ⌝ }
-    ensures { λ r. ⌜ r ≡ at + length (outBy (now (kana .entry)) x (found value)) ⌝ }
-    ensures { λ _. ⌜ now (room .exit) ≡ over (now (room .entry)) (4 * at) (beWords (outBy (now (kana .entry)) x (found value))) ⌝ }
+// Writes the labels that go out for the piece at place `at` of the text into the room, starting at label `count`: the text of its
+// value, or the byte there. Returns the number of labels with them.
+pub fn put_piece(
+    kana: &[u8],
+    value: Found,
+    kept: &[u8],
+    typed: &[u8],
+    at: usize,
+    room: &mut [u8],
+    count: usize,
+) -> usize
+    requires { ⌜ at < length (now kept) + length (now typed) ⌝ }
+    requires { ⌜ 4 * (count + length (outBy (now kana) (getD (now kept ++ now typed) at 0) (found value))) ≤ length (now room) ⌝ }
+    ensures { λ r. ⌜ r ≡ count + length (outBy (now (kana .entry)) (getD (now (kept .entry) ++ now (typed .entry)) at 0) (found value)) ⌝ }
+    ensures { λ _. ⌜ now (room .exit) ≡ over (now (room .entry)) (4 * count) (beWords (outBy (now (kana .entry)) (getD (now (kept .entry) ++ now (typed .entry)) at 0) (found value))) ⌝ }
 {
     let Found::Is(v) = value else {
-        put_be32(room, 4 * at, x as u32);
-        return at + 1;
+        put_label(kept, typed, at, room, count);
+        return count + 1;
     };
     let text = text_bytes(kana, v);
-    put_text(text, room, at);
-    at + label_count(text)
+    put_text(text, room, count);
+    count + label_count(text)
 }

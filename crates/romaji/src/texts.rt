@@ -19,7 +19,7 @@ pub fn text_length(kept: &[u8], typed: &[u8]) -> usize
 }
 
 // The byte at place i.
-pub fn byte_of(kept: &[u8], typed: &[u8], i: usize) -> u8
+fn byte_of(kept: &[u8], typed: &[u8], i: usize) -> u8
     requires { ⌜ i < length (now kept) + length (now typed) ⌝ }
     ensures { λ r. ⌜ r ≡ getD (now (kept .entry) ++ now (typed .entry)) i 0 ⌝ }
 {
@@ -29,13 +29,13 @@ pub fn byte_of(kept: &[u8], typed: &[u8], i: usize) -> u8
     typed[i - kept.len()]
 }
 
-// Writes the byte at place `at` of the text as label i of the query.
-fn put_label(kept: &[u8], typed: &[u8], at: usize, query: &mut [u8], i: usize)
+// Writes the byte at place `at` of the text as label i of the room.
+pub fn put_label(kept: &[u8], typed: &[u8], at: usize, room: &mut [u8], i: usize)
     requires { ⌜ at < length (now kept) + length (now typed) ⌝ }
-    requires { ⌜ 4 * i + 4 ≤ length (now query) ⌝ }
-    ensures { λ _. ⌜ now (query .exit) ≡ over (now (query .entry)) (4 * i) (beBytes (getD (now (kept .entry) ++ now (typed .entry)) at 0)) ⌝ }
+    requires { ⌜ 4 * i + 4 ≤ length (now room) ⌝ }
+    ensures { λ _. ⌜ now (room .exit) ≡ over (now (room .entry)) (4 * i) (beBytes (getD (now (kept .entry) ++ now (typed .entry)) at 0)) ⌝ }
 {
-    put_be32(query, 4 * i, byte_of(kept, typed, at) as u32);
+    put_be32(room, 4 * i, byte_of(kept, typed, at) as u32);
 }
 
 // Writes `count` bytes of the text, starting at place `at`, to the front of `query`, each as a label.

@@ -10,8 +10,7 @@ put-piece-spec =
     (tie.spec
     (λ c. search needs)
     (λ c. search needs)
-    (λ c. search needs)
-    (λ c κs. search byte-room)
+    (λ c κs. (search needs, search byte-room))
     (λ c. search needs)
     (λ c. search needs)
     (λ c. (search byte-after, search byte-put))
