@@ -65,7 +65,7 @@ next-word ws places i h l =
     ∙ sym (append-snoc (take i ws) (getD ws i 0) (drop (suc i) places)))
 
 -- all words, or as many as there is room for
-all-words : (ws places : List ℕ) (i : ℕ) → i ≡ min (length ws) (length places) → take i ws ++ drop i places ≡ take (length places) ws ++ drop (length ws) places
+pub all-words : (ws places : List ℕ) (i : ℕ) → i ≡ min (length ws) (length places) → take i ws ++ drop i places ≡ take (length places) ws ++ drop (length ws) places
 all-words [] places i e = let z : i ≡ 0 = omega arith in rw (z, take-nil)
 all-words (w ∷ ws) [] i e = let z : i ≡ 0 = omega arith in rw z
 all-words (w ∷ ws) (p ∷ places) zero e = absurd (omega arith)

@@ -8,7 +8,7 @@ use lxtr_spec::LENGTH_COUNT;
 const WORD_COUNT: usize = 2 * LENGTH_COUNT;
 
 // The lesser of two numbers.
-fn lesser(a: usize, b: usize) -> usize
+pub fn lesser(a: usize, b: usize) -> usize
     ensures { λ r. ⌜ r ≡ min a b ⌝ }
 {
     if a < b { a } else { b }

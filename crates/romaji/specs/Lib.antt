@@ -6,3 +6,4 @@ pub mod Progress
 pub mod Counting
 pub mod Writing
 pub mod Answering
+pub mod StateBytes

@@ -3,14 +3,15 @@
 mod tables; // the texts of the kana table
 mod texts; // the text: what was kept, then what is typed
 mod pieces; // the piece at a place of the text
+pub mod states; // the state as bytes, for C
 
 ghost use mathlib.Core.Path.{_≡_};
 ghost use mathlib.Core.List.{[], _++_};
 ghost use mathlib.Core.Bool.{false};
-ghost use Prim.Native.Nat.{_*_, _≤_, min};
+ghost use Prim.Native.Nat.{_*_, _≤_};
 ghost use lib.ListN.{length};
 ghost use lib.Dec.{leb};
-ghost use Rattle.romaji_spec.specs.Pieces.{maxKept, cut};
+ghost use Rattle.romaji_spec.specs.Pieces.{cut};
 ghost use Rattle.romaji_spec.specs.Typing.{hasEmptyKey, tableRefusal, answered, convert, typeOf, finishOf};
 ghost use Rattle.romaji.specs.Progress.{outOf};
 ghost use Rattle.romaji.specs.Writing.{Converts};
@@ -18,6 +19,7 @@ use crate::pieces::next_piece;
 use crate::pieces::out_count;
 use crate::pieces::put_piece;
 use crate::tables::table_short;
+use crate::texts::kept_count;
 use crate::texts::rest_kept;
 use crate::texts::text_length;
 use lxtr_highest::highest;
@@ -118,14 +120,6 @@ fn put_pieces(
     Converted { at, count }
 }
 
-// How many bytes a state keeps: as many as it says, but not more than it has.
-fn kept_count(count: u8) -> usize
-    ensures { λ r. ⌜ r ≡ min count maxKept ⌝ }
-{
-    let bytes = count as usize;
-    if bytes < MAX_KEPT { bytes } else { MAX_KEPT }
-}
-
 // Converts a text, of which `kept` is what the state keeps, if there is room.
 fn convert_text(
     image: &[u8],
@@ -174,7 +168,7 @@ fn convert(
         };
     }
     let bytes = state.kept;
-    let count = kept_count(state.count);
+    let count = kept_count(state.count, MAX_KEPT);
     convert_text(image, kana, state, &bytes[..count], typed, room, keeping)
 }
 

@@ -2,10 +2,10 @@
 ghost use mathlib.Core.Path.{_≡_};
 ghost use mathlib.Core.List.{_++_};
 ghost use mathlib.Core.Bool.{false, _&&_};
-ghost use Prim.Native.Nat.{_+_, _*_, _≤_, _<_, min};
+ghost use Prim.Native.Nat.{_+_, _*_, _≤_, _<_};
 ghost use lib.ListN.{length, getD, drop};
 ghost use Rattle.lxtr_spec.specs.Numbers.{beWords};
-ghost use Rattle.lxtr_spec.specs.Labels.{maxLabels, labelsOf};
+ghost use Rattle.lxtr_spec.specs.Labels.{labelsOf};
 ghost use Rattle.lxtr_spec.specs.Searches.{probeOf};
 ghost use Rattle.lxtr_spec.specs.Answers.{found};
 ghost use Rattle.lxtr_laws.specs.Overlays.{over};
@@ -18,6 +18,7 @@ use crate::texts::text_length;
 use lxtr_bytes::labels::label_at;
 use lxtr_bytes::labels::label_count;
 use lxtr_bytes::numbers::put_be32;
+use lxtr_host::places::lesser;
 use lxtr_search::exact;
 use lxtr_search::longest;
 use lxtr_search::probe;
@@ -77,13 +78,6 @@ fn front_piece(image: &[u8], query: &[u8], keeping: bool) -> Next
     longest_key(image, query)
 }
 
-// How many bytes are looked at, of those that are left: as many as a key may have labels.
-fn looked_at(left: usize) -> usize
-    ensures { λ r. ⌜ r ≡ min maxLabels left ⌝ }
-{
-    if left < MAX_LABELS { left } else { MAX_LABELS }
-}
-
 // The piece at place `at` of the text. With `keeping`, a rest that could still grow is kept.
 pub fn next_piece(image: &[u8], kept: &[u8], typed: &[u8], at: usize, keeping: bool) -> Next
     requires { ⌜ hasEmptyKey (now image) ≡ false ⌝ }
@@ -91,7 +85,8 @@ pub fn next_piece(image: &[u8], kept: &[u8], typed: &[u8], at: usize, keeping: b
     ensures { λ r. ⌜ NextIs keeping (now (image .entry)) (drop at (now (kept .entry) ++ now (typed .entry))) (r .length) (found (r .value)) ⌝ }
 {
     let left = text_length(kept, typed) - at;
-    let count = looked_at(left);
+    // no key is longer than these bytes
+    let count = lesser(MAX_LABELS, left);
     let mut query = [0u8; 4 * MAX_LABELS];
     put_query(kept, typed, at, count, &mut query);
     let end = 4 * count;

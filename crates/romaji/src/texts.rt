@@ -1,13 +1,14 @@
 // The text that is converted: the bytes kept, then those typed now. It is never put together; its bytes are read by their places.
 ghost use mathlib.Core.Path.{_≡_};
 ghost use mathlib.Core.List.{_++_};
-ghost use Prim.Native.Nat.{_+_, _*_, _≤_, _<_};
+ghost use Prim.Native.Nat.{_+_, _*_, _≤_, _<_, min};
 ghost use lib.ListN.{length, getD, take, drop};
 ghost use Rattle.lxtr_spec.specs.Numbers.{beBytes, beWords};
 ghost use Rattle.lxtr_laws.specs.Overlays.{over};
 ghost use Rattle.romaji_spec.specs.Pieces.{maxKept};
 ghost use Rattle.romaji_spec.specs.Typing.{stateOf};
 use lxtr_bytes::numbers::put_be32;
+use lxtr_host::places::lesser;
 use romaji_spec::MAX_KEPT;
 use romaji_spec::State;
 
@@ -49,6 +50,13 @@ pub fn put_query(kept: &[u8], typed: &[u8], at: usize, count: usize, query: &mut
         put_label(kept, typed, at + i, query, i);
         i += 1;
     }
+}
+
+// How many bytes are kept: as many as the state says, but not more than it has.
+pub fn kept_count(count: u8, most: usize) -> usize
+    ensures { λ r. ⌜ r ≡ min count most ⌝ }
+{
+    lesser(count as usize, most)
 }
 
 // The state that keeps the text from place `at` on.
