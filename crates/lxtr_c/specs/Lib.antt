@@ -1,2 +1,3 @@
 -- Laws of the functions for C: the number that each returns.
 pub mod EntryNumbers
+pub mod TypingNumbers

@@ -1,7 +1,11 @@
 // The functions for programs in C and Rust: each operation under a plain name, with slices passed as pointer and length, and one
 // 64-bit number as the answer. `include/lxtr.h` declares them and says what each number means.
 ghost use mathlib.Core.Path.{_≡_};
-ghost use Rattle.lxtr_spec.specs.HostNumbers.{checkNumber, faultNumber, highestNumber, exactNumber, probeNumber, longestNumber, hostPrefixesOf, hostCompletionOf, hostBuildOf};
+ghost use mathlib.Core.Bool.{false};
+ghost use Prim.Native.Nat.{_%_, _^_};
+ghost use Rattle.lxtr_spec.specs.Refusals.{unlessRefused};
+ghost use Rattle.lxtr_spec.specs.HostNumbers.{hostNumber, atFront, checkNumber, faultNumber, highestNumber, exactNumber, probeNumber, longestNumber, hostPrefixesOf, hostCompletionOf, hostBuildOf};
+ghost use Rattle.romaji_spec.specs.HostStates.{stateBytes, hostTypeOf, hostFinishOf};
 use lxtr_build::build;
 use lxtr_check::check;
 use lxtr_complete::complete;
@@ -16,6 +20,11 @@ use lxtr_search::longest;
 use lxtr_search::matches::put_prefixes;
 use lxtr_search::probe;
 use lxtr_spec::LENGTH_COUNT;
+use romaji::finish;
+use romaji::states::put_state;
+use romaji::states::read_state;
+use romaji::type_bytes;
+use romaji_spec::Typed;
 
 // The check: the number of pairs.
 #[no_mangle]
@@ -107,4 +116,49 @@ pub extern "C" fn lxtr_build(keys: &[u8], work: &mut [u32], out: &mut [u8]) -> u
 {
     let built = build(keys, work, out);
     host_number(built.refusal, false, false, built.length)
+}
+
+// The number of an answer of typing or finishing: how many labels went out, modulo 2^32. The next state is put into `bytes`; after a
+// refusal they stay.
+fn typing_answered(answer: Typed, bytes: &mut [u8]) -> u64
+    ensures { λ r. ⌜ r ≡ hostNumber (answer .refusal) false false (answer .count % 2 ^ 32) ⌝ }
+    ensures { λ _. ⌜ now (bytes .exit) ≡ unlessRefused (answer .refusal) (atFront (stateBytes (answer .state)) (now (bytes .entry))) (now (bytes .entry)) ⌝ }
+{
+    let count = answer.count % 0x1_0000_0000;
+    let number = host_number(answer.refusal, false, false, count as u32);
+    if answer.refusal != 0 {
+        return number;
+    }
+    let state = answer.state;
+    put_state(state, bytes);
+    number
+}
+
+// Romaji typing: how many labels went out.
+#[no_mangle]
+pub extern "C" fn lxtr_romaji_type(
+    image: &[u8],
+    kana: &[u8],
+    state: &mut [u8],
+    typed: &[u8],
+    room: &mut [u8],
+) -> u64
+    ensures { λ r. ⌜ record { number = r; state = now (state .exit); room = now (room .exit) } ≡ hostTypeOf (now (image .entry)) (now (kana .entry)) (now (state .entry)) (now (typed .entry)) (now (room .entry)) ⌝ }
+{
+    let answer = type_bytes(image, kana, read_state(state), typed, room);
+    typing_answered(answer, state)
+}
+
+// Finishing what was typed: how many labels went out.
+#[no_mangle]
+pub extern "C" fn lxtr_romaji_finish(
+    image: &[u8],
+    kana: &[u8],
+    state: &mut [u8],
+    room: &mut [u8],
+) -> u64
+    ensures { λ r. ⌜ record { number = r; state = now (state .exit); room = now (room .exit) } ≡ hostFinishOf (now (image .entry)) (now (kana .entry)) (now (state .entry)) (now (room .entry)) ⌝ }
+{
+    let answer = finish(image, kana, read_state(state), room);
+    typing_answered(answer, state)
 }
