@@ -1,7 +1,7 @@
 -- The demand on romaji typing, its examples, and what it rules out; the proofs are in Laws/.
 pub mod Cuts
-pub mod Demand
+pub mod TypingDemand
 pub mod Laws
-pub mod Rows
-pub mod Examples
-pub mod Instances
+pub mod TypingRows
+pub mod TypingExamples
+pub mod TypingInstances

@@ -13,7 +13,7 @@ use Rattle.lxtr_spec.specs.Meaning.{Longer}
 use Rattle.romaji_spec.specs.Pieces.{couldGrow, pieceAt, pieceText, Cutting, onlyRest, withPiece, cut}
 use Rattle.romaji_laws.specs.Steps.{Keeps, cut-end, cut-keeps, cut-next}
 use Rattle.romaji_demands.specs.Cuts.{CutInto, Never}
-use Rattle.romaji_demands.specs.Demand.{Bytes}
+use Rattle.romaji_demands.specs.TypingDemand.{Bytes}
 use Rattle.romaji_demands.specs.Laws.FrontParts.{bytes-drop}
 use Rattle.romaji_demands.specs.Laws.Pieces.{piece-some}
 use Rattle.romaji_demands.specs.Laws.Cuts.{only-rest, first-cut}

@@ -25,7 +25,7 @@ use Rattle.lxtr_demands.specs.Laws.Demand2.{demand2}
 use Rattle.lxtr_demands.specs.Laws.KeysBack.{labels-back}
 use Rattle.romaji_spec.specs.Pieces.{maxKept, couldGrow, Piece, matched, matchedValue, pieceBy, pieceAt, pieceText}
 use Rattle.romaji_demands.specs.Cuts.{NoKeyAt, PieceAt}
-use Rattle.romaji_demands.specs.Demand.{Bytes}
+use Rattle.romaji_demands.specs.TypingDemand.{Bytes}
 use Rattle.romaji_demands.specs.Laws.FrontParts.{bytes-take}
 
 -- p is the piece at the beginning of the text r, and its bytes are a front part of r

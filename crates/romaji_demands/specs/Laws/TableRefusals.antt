@@ -22,7 +22,7 @@ use Rattle.lxtr_demands.specs.Laws.HighestValue.{highest-value}
 use Rattle.romaji_spec.specs.KanaTables.{textEnd, textAt, textCut, tableShort}
 use Rattle.romaji_spec.specs.Typing.{isValue, hasEmptyKey, tableRefusal}
 use Rattle.romaji_laws.specs.TextPlaces.{text-rises}
-use Rattle.romaji_demands.specs.Demand.{TableWhole, Ready, RefusedBy, image-wrong, table-short, empty-key}
+use Rattle.romaji_demands.specs.TypingDemand.{TableWhole, Ready, RefusedBy, image-wrong, table-short, empty-key}
 
 -- the table against the highest value
 module _ (kana : List ℕ) (d : PairSet) where

@@ -17,7 +17,7 @@ use Rattle.romaji_spec.specs.Pieces.{Piece, pieceOut, outgoing}
 use Rattle.romaji_spec.specs.Typing.{stateOf, TypingAnswer, refusedBy, wentOut}
 use Rattle.romaji_spec.specs.declared.State.{State}
 use Rattle.romaji_demands.specs.Cuts.{CutInto, TypedAs}
-use Rattle.romaji_demands.specs.Demand.{Answers, roomLeft, together, AtOnce}
+use Rattle.romaji_demands.specs.TypingDemand.{Answers, roomLeft, together, AtOnce}
 
 out-joined : (kana : List ℕ) (ps qs : List Piece) → outgoing kana (ps ++ qs) ≡ outgoing kana ps ++ outgoing kana qs
 unfolding outgoing

@@ -15,7 +15,7 @@ use Rattle.romaji_spec.specs.Pieces.{Piece, Cutting, outgoing, cut}
 use Rattle.romaji_spec.specs.Typing.{keptIn, tableRefusal, roomRefusal, refusedBy, wentOut, answered, convert, typeOf, finishOf}
 use Rattle.romaji_spec.specs.declared.State.{State}
 use Rattle.romaji_demands.specs.Cuts.{CutInto, Never, FinishedAs}
-use Rattle.romaji_demands.specs.Demand.{Ready, RefusedBy, Bytes, Answers, textOf, TypingDemand, defined}
+use Rattle.romaji_demands.specs.TypingDemand.{Ready, RefusedBy, Bytes, Answers, textOf, TypingDemand, defined}
 use Rattle.romaji_demands.specs.Laws.Cuts.{one-cut}
 use Rattle.romaji_demands.specs.Laws.CutTexts.{KeptBack, typing-keeps, finishing-keeps, cut-is}
 use Rattle.romaji_demands.specs.Laws.TableRefusals.{ready-passes, refused-is, refusal-above-0, decided}

@@ -14,11 +14,11 @@ use Rattle.romaji_spec.specs.Pieces.{Piece, outgoing}
 use Rattle.romaji_spec.specs.Typing.{keptIn, stateOf, TypingAnswer, refusedBy, wentOut, typeOf, finishOf}
 use Rattle.romaji_spec.specs.declared.State.{State}
 use Rattle.romaji_demands.specs.Cuts.{CutInto}
-use Rattle.romaji_demands.specs.Demand.{Program, Bytes, Answers, textOf, TypingDemand}
+use Rattle.romaji_demands.specs.TypingDemand.{Program, Bytes, Answers, textOf, TypingDemand}
 use Rattle.romaji_demands.specs.Laws.Typing.{typing-demand}
 use Rattle.romaji_demands.specs.Laws.Parts.{kept-same}
-use Rattle.romaji_demands.specs.Rows.{romaji-computing}
-use Rattle.romaji_demands.specs.Examples.{kana3}
+use Rattle.romaji_demands.specs.TypingRows.{romaji-computing}
+use Rattle.romaji_demands.specs.TypingExamples.{kana3}
 
 -- one cutting of the text leaves one answer
 one-answer : {d : PairSet} {Waits : List ℕ → Type 0} {kana : List ℕ} {s : State} {text room : List ℕ} {a c : TypingAnswer} (ps : List Piece) (rest : List ℕ) → CutInto d Waits text ps rest

@@ -1,12 +1,12 @@
 -- The examples of document 02's request 1, and readings of it that none of them shows, as one table: the definitions compute what the
 -- rows say. In P3, 6E (n) has the value 0 and 6E 61 (na) the value 1.
-use Prim.Native.Nat.{ℕ, _*_, _^_}
+use Prim.Native.Nat.{ℕ, _+_, _*_, _^_}
 use mathlib.Core.Path.{refl}
 use mathlib.Core.List.{List, [], _∷_, _++_}
 use lib.ListN.{replicate}
 use Rattle.lxtr_spec.specs.Builds.{imageBytes}
 use Rattle.lxtr_spec.specs.Samples.{p1, p2, p3, p7, p8-check, p9-longer}
-use Rattle.romaji_demands.specs.Rows.{Example, types, finishes, type-refused, finish-refused, state-finishes, host-types, host-finishes, AllHold, _and_, romaji-computing}
+use Rattle.romaji_demands.specs.TypingRows.{Example, types, finishes, type-refused, finish-refused, state-finishes, host-types, host-finishes, AllHold, _and_, romaji-computing}
 
 -- U+3093 for n and U+306A for na
 unfoldable pub kana3 : List ℕ
@@ -20,9 +20,17 @@ kana3-empty = 0 ∷ 1 ∷ 0 ∷ 0 ∷ 0x30 ∷ 0x6A ∷ []
 unfoldable pub kana3-short : List ℕ
 kana3-short = 1 ∷ 0 ∷ 0 ∷ 0x30 ∷ 0x93 ∷ 1 ∷ 0 ∷ 0 ∷ 0x30 ∷ []
 
--- an image with the key 6E 3042 alone, whose second label is no byte
+-- an image with one key, 6E x, whose value is v
+unfoldable pub one-key : ℕ → ℕ → List ℕ
+one-key x v = imageBytes (0 ∷ 0 ∷ 3 ∷ 0 ∷ 1 ∷ 1 ∷ 4 ∷ 0x80000002 ∷ (0x80000000 + v) ∷ 3 ∷ []) (0 ∷ 0 ∷ 1 ∷ 2 ∷ 3 ∷ 3 ∷ []) (2 ∷ 3 ∷ 4 ∷ []) (0x6E ∷ x ∷ [])
+
+-- its second label is no byte
 unfoldable pub wide-label : List ℕ
-wide-label = imageBytes (0 ∷ 0 ∷ 3 ∷ 0 ∷ 1 ∷ 1 ∷ 4 ∷ 0x80000002 ∷ 0x80000000 ∷ 3 ∷ []) (0 ∷ 0 ∷ 1 ∷ 2 ∷ 3 ∷ 3 ∷ []) (2 ∷ 3 ∷ 4 ∷ []) (0x6E ∷ 0x3042 ∷ [])
+wide-label = one-key 0x3042 0
+
+-- no key has the values 0 and 1
+unfoldable pub sparse : List ℕ
+sparse = one-key 0x61 2
 
 unfoldable pub examples : List Example
 examples =
@@ -54,6 +62,8 @@ examples =
     ∷ type-refused [] [] (0x6E ∷ []) (0x61 ∷ []) 8 1 ∷ type-refused p9-longer kana3 (0x6E ∷ []) (0x61 ∷ []) 8 6 ∷ finish-refused p8-check kana3 (0x6E ∷ []) 8 10
     -- 24: a text that is not whole, though it is not needed here; no table at all
     ∷ type-refused p3 kana3-short (0x6E ∷ []) (0x78 ∷ []) 8 24 ∷ finish-refused p3 [] [] 8 24
+    -- values may be sparse: the text of 2 lies behind those of 0 and 1
+    ∷ type-refused sparse (0 ∷ 0 ∷ []) [] (0x78 ∷ []) 8 24 ∷ types sparse (0 ∷ 0 ∷ 1 ∷ 0 ∷ 0 ∷ 0x30 ∷ 0x6A ∷ []) [] (0x6E ∷ 0x61 ∷ []) 8 (0x306A ∷ []) []
     -- 25: the empty key, with a table that is whole
     ∷ type-refused p2 (0 ∷ []) [] (0x61 ∷ []) 8 25 ∷ finish-refused p2 (0 ∷ []) [] 8 25
     -- two at once: 11 and 24, 24 and 25, 24 and 29, 25 and 29
@@ -68,7 +78,7 @@ examples =
     ∷ []
 
 pub examples-hold : AllHold examples
-unfolding examples kana3 kana3-empty kana3-short wide-label romaji-computing
+unfolding examples kana3 kana3-empty kana3-short one-key wide-label sparse romaji-computing
 examples-hold =
     (refl, refl) and (refl, refl) and (refl, refl)
     and (refl, refl) and (refl, refl)
@@ -84,6 +94,7 @@ examples-hold =
     and (refl, refl) and (refl, refl)
     and (refl, refl) and (refl, refl) and (refl, refl)
     and (refl, refl) and (refl, refl) and (refl, refl)
+    and (refl, refl) and (refl, refl)
     and (refl, refl) and (refl, refl)
     and (refl, refl) and (refl, refl)
     and (refl, refl) and (refl, refl) and (refl, refl) and (refl, refl)
