@@ -1,22 +1,20 @@
 -- Typing and finishing as the code makes them: first the refusals of image and table, then room, then what goes out and what is kept.
 -- Results of calls are variables: each law says that what one return computes is the definition's answer.
-use Prim.Native.Nat.{ℕ, _+_, _-_, _*_, _/_, _≤_, _<_, min}
+use Prim.Native.Nat.{ℕ, _+_, _*_, _/_, _≤_, min}
 use native.Mathlib.Omega.{arith}
 use native.Mathlib.Nat.{zero-add}
 use mathlib.Core.Path.{_≡_, refl, sym, ap, _∙_}
 use mathlib.Core.Logic.{_≢_}
 use mathlib.Core.Bool.{Bool, true, false, not}
 use mathlib.Core.List.{List, [], _++_}
-use mathlib.Core.Option.{Option}
 use lib.ListN.{length, take, drop, length-append, length-drop}
-use lib.Dec.{leb, ltb}
+use lib.Dec.{leb}
 use borrow.Author.Tests.{leb-true, leb-false, lt-ltb, le-ltb}
 use Rattle.lxtr_spec.specs.Numbers.{beWords}
 use Rattle.lxtr_spec.specs.Refusals.{refuseIf, firstRefusal, unlessRefused}
-use Rattle.lxtr_spec.specs.Searches.{ExactAnswer, exactOf}
-use Rattle.lxtr_spec.specs.HighestValues.{HighestAnswer, highestOf}
+use Rattle.lxtr_spec.specs.Searches.{exactOf}
+use Rattle.lxtr_spec.specs.HighestValues.{highestOf}
 use Rattle.lxtr_spec.specs.Answers.{found, exactMeans, highestMeans}
-use Rattle.lxtr_spec.specs.declared.Found.{Found}
 use Rattle.lxtr_spec.specs.declared.Found.the-variants.{Is, Nothing}
 use Rattle.lxtr_spec.specs.declared.Exact.{Exact}
 use Rattle.lxtr_spec.specs.declared.Highest.{Highest}
@@ -25,10 +23,9 @@ use Rattle.lxtr_laws.specs.RefusalChains.{refused-by, goes-on-by, none-first, n
 use Rattle.lxtr_laws.specs.ByteOrders.{big, words-size}
 use Rattle.lxtr_laws.specs.Overlays.{over}
 use Rattle.romaji_spec.specs.KanaTables.{tableShort}
-use Rattle.romaji_spec.specs.Pieces.{maxKept, Cutting, outgoing, cut}
+use Rattle.romaji_spec.specs.Pieces.{maxKept, cut}
 use Rattle.romaji_spec.specs.Typing.{keptIn, stateOf, isValue, hasEmptyKey, tableRefusal, roomRefusal, TypingAnswer, refusedBy, wentOut, answered, convert}
 use Rattle.romaji_spec.specs.declared.State.{State}
-use Rattle.romaji_spec.specs.declared.Typed.{Typed}
 use Rattle.romaji_laws.specs.Steps.{rest-few}
 use Rattle.romaji.specs.Tables.{take-least}
 use Rattle.romaji.specs.Progress.{outOf}

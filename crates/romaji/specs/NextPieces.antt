@@ -21,12 +21,13 @@ use Rattle.lxtr_spec.specs.declared.Found.the-variants.{Is, Nothing}
 use Rattle.lxtr_spec.specs.declared.Exact.{Exact}
 use Rattle.lxtr_spec.specs.declared.Probe.{Probe}
 use Rattle.lxtr_laws.specs.ByteOrders.{big, words-size, words-one}
-use Rattle.lxtr_laws.specs.Overlays.{over, over-length, WordsIn, words-start, words-next}
+use Rattle.lxtr_laws.specs.Overlays.{over}
 use Rattle.lxtr_search.specs.Kept.{longest-bytes}
 use Rattle.romaji_spec.specs.KanaTables.{textBytes, kanaOf}
 use Rattle.romaji_spec.specs.Pieces.{maxKept, couldGrow, matched, matchedValue, pieceBy, pieceAt, pieceText, pieceOut}
 use Rattle.romaji_spec.specs.Typing.{isValue, hasEmptyKey}
 use Rattle.romaji_laws.specs.Steps.{Keeps, GoesOn}
+use Rattle.romaji.specs.Labels.{LabelsPut, labels-start, labels-place, labels-next, labels-end}
 use Rattle.romaji.specs.Tables.{take-least}
 
 -- ---- the longest key at the front of a query
@@ -146,9 +147,6 @@ module _ (keeping : Bool) (b kept typed : List ℕ) (at l m : ℕ) (z q : List �
   pub looks-within : at + m ≤ length kept + length typed
   looks-within = omega arith
 
-  pub looks-fit : 4 * m ≤ 4 * maxLabels
-  looks-fit = omega arith
-
   abbrev rest : List ℕ
   rest = drop at (kept ++ typed)
 
@@ -217,33 +215,24 @@ module _ (kana : List ℕ) (f : Found) (x : ℕ) where
       pub byte-put : (room′ : List ℕ) → room′ ≡ over room (4 * at) (beBytes x) → room′ ≡ over room (4 * at) (beWords (outBy kana x (found f)))
       byte-put room′ e = e ∙ ap (over room (4 * at)) (sym (ap beWords byte-out ∙ words-one big x))
 
--- ---- the labels of a text, written one after the other, starting at label `at`: the first i of n are in the room
+-- ---- the labels of a text: the first i of n are in the room
 pub record TextPut (text room : List ℕ) (at n i : ℕ) (room′ : List ℕ) : Type 0 where
-  pub to : i ≤ n
   pub count : n ≡ length (labelsOf text)
-  pub size : length room′ ≡ length room
-  pub put : WordsIn beWords room (labelsOf text) (4 * at) i room′
+  pub put : LabelsPut (labelsOf text) room at i room′
 
 module _ (text room : List ℕ) (at : ℕ) where
   pub put-start : (n : ℕ) → n ≡ length (labelsOf text) → TextPut text room at n 0 room
-  put-start n e = record { to = omega arith; count = e; size = refl; put = words-start big room (labelsOf text) (4 * at) }
+  put-start n e = record { count = e; put = labels-start (labelsOf text) room at }
 
   module _ (large : 4 * (at + length (labelsOf text)) ≤ length room) (n i : ℕ) (room′ : List ℕ) (before : TextPut text room at n i room′) where
     pub put-label : i < n → i < length (labelsOf text)
     put-label h = omega (arith, before .count)
 
     pub put-place : i < n → 4 * at + 4 * i + 4 ≤ length room′
-    put-place h = omega (arith, before .count, before .size)
+    put-place h = labels-place (labelsOf text) room at large i room′ (before .put) (put-label h)
 
     pub put-next : (x : ℕ) (room″ : List ℕ) → i < n → x ≡ getD (labelsOf text) i 0 → room″ ≡ over room′ (4 * at + 4 * i) (beBytes x) → TextPut text room at n (i + 1) room″
-    unfolding beBytes
-    put-next x room″ h is e =
-        record {
-          to = omega arith;
-          count = before .count;
-          size = ap length e ∙ over-length room′ (4 * at + 4 * i) (beBytes x) (put-place h) ∙ before .size;
-          put = words-next big room (labelsOf text) (4 * at) n (omega (arith, before .count)) (omega (arith, before .count)) i room′ (before .put) room″ h (rw (← is) e);
-        }
+    put-next x room″ h is e = record { count = before .count; put = labels-next (labelsOf text) room at large i room′ (before .put) room″ (put-label h) (rw (← is) e) }
 
     pub put-end : n ≤ i → room′ ≡ over room (4 * at) (beWords (labelsOf text))
-    put-end h = before .put ∙ ap (λ (xs : List ℕ). over room (4 * at) (beWords xs)) (take-all i (labelsOf text) (omega (arith, before .count)))
+    put-end h = labels-end (labelsOf text) room at large i room′ (before .put) (omega (arith, before .count))

@@ -4,17 +4,17 @@ use Prim.Native.Nat.{ℕ, zero, suc, _+_, _-_, _*_, _≤_, _<_, _^_}
 use native.Mathlib.Omega.{arith}
 use native.Mathlib.Nat.{zero-add}
 use native.Mathlib.Numerals.{add-one}
-use mathlib.Core.Path.{_≡_, refl, sym, ap, _∙_}
+use mathlib.Core.Path.{_≡_, sym, ap, _∙_}
 use mathlib.Core.List.{List, _++_}
 use lib.ListN.{length, take, drop, getD, set, replicate, length-append, length-drop, length-replicate, List·getD-append}
 use lib.Seq.{length-take-le, getD-take, getD-drop, getD-append-add, take-all, paste, paste-zero, paste-suc}
 use Rattle.lxtr_spec.specs.Numbers.{beBytes, beWords}
-use Rattle.lxtr_laws.specs.ByteOrders.{big}
-use Rattle.lxtr_laws.specs.Overlays.{over, over-length, WordsIn, words-start, words-next}
+use Rattle.lxtr_laws.specs.Overlays.{over}
 use Rattle.lxtr_laws.specs.Limit.{length-fits-byte}
 use Rattle.romaji_spec.specs.Pieces.{maxKept}
 use Rattle.romaji_spec.specs.Typing.{stateOf}
 use Rattle.romaji_spec.specs.declared.State.{State}
+use Rattle.romaji.specs.Labels.{LabelsPut, labels-start, labels-next, labels-end}
 
 -- ---- the bytes of the text
 
@@ -40,36 +40,31 @@ label-put t at i x q q′ e f = rw (← e) f
 
 -- the first i of them are in the query, which was q before
 pub record QueryPut (kept typed : List ℕ) (at n : ℕ) (q : List ℕ) (i : ℕ) (q′ : List ℕ) : Type 0 where
-  pub to : i ≤ n
-  pub size : length q′ ≡ length q
-  pub put : WordsIn beWords q (take n (drop at (kept ++ typed))) 0 i q′
+  pub all : length (take n (drop at (kept ++ typed))) ≡ n
+  pub put : LabelsPut (take n (drop at (kept ++ typed))) q 0 i q′
 
 module _ (kept typed : List ℕ) (at n : ℕ) (q : List ℕ) where
   abbrev part : List ℕ
   part = take n (drop at (kept ++ typed))
 
-  pub query-start : QueryPut kept typed at n q 0 q
-  query-start = record { to = omega arith; size = refl; put = words-start big q part 0 }
+  pub query-start : at + n ≤ length kept + length typed → QueryPut kept typed at n q 0 q
+  query-start h = record { all = length-take-le n (drop at (kept ++ typed)) (omega (arith, length-drop at (kept ++ typed), length-append kept typed)); put = labels-start part q 0 }
 
-  module _ (within : at + n ≤ length kept + length typed) (large : 4 * n ≤ length q) (i : ℕ) (q′ : List ℕ) (before : QueryPut kept typed at n q i q′) where
-    part-length : length part ≡ n
-    part-length = length-take-le n (drop at (kept ++ typed)) (omega (arith, length-drop at (kept ++ typed), length-append kept typed))
+  module _ (large : 4 * n ≤ length q) (i : ℕ) (q′ : List ℕ) (before : QueryPut kept typed at n q i q′) where
+    enough : 4 * (0 + length part) ≤ length q
+    enough = omega (arith, before .all)
 
     pub query-place : i < n → 4 * i + 4 ≤ length q′
-    query-place h = omega (arith, before .size)
+    query-place h = omega (arith, before .put .size)
 
     pub query-next : (q″ : List ℕ) → i < n → q″ ≡ over q′ (4 * i) (beBytes (getD (kept ++ typed) (at + i) 0)) → QueryPut kept typed at n q (i + 1) q″
-    unfolding beBytes
-    query-next q″ h f =
-        let is : getD (kept ++ typed) (at + i) 0 ≡ getD part i 0 = sym (getD-take n (drop at (kept ++ typed)) i 0 h ∙ getD-drop at (kept ++ typed) i 0) in
-        record {
-          to = omega arith;
-          size = ap length f ∙ over-length q′ (4 * i) (beBytes (getD (kept ++ typed) (at + i) 0)) (query-place h) ∙ before .size;
-          put = words-next big q part 0 n (omega arith) (omega (arith, part-length)) i q′ (before .put) q″ h (rw (zero-add, ← is) f);
-        }
+    query-next q″ h e =
+        let is : getD part i 0 ≡ getD (kept ++ typed) (at + i) 0 = getD-take n (drop at (kept ++ typed)) i 0 h ∙ getD-drop at (kept ++ typed) i 0 in
+        let place : 4 * 0 + 4 * i ≡ 4 * i = omega arith in
+        record { all = before .all; put = labels-next part q 0 enough i q′ (before .put) q″ (omega (arith, before .all)) (rw (place, is) e) }
 
     pub query-end : n ≤ i → q′ ≡ over q 0 (beWords part)
-    query-end h = before .put ∙ ap (λ (xs : List ℕ). over q 0 (beWords xs)) (take-all i part (omega (arith, part-length)))
+    query-end h = labels-end part q 0 enough i q′ (before .put) (omega (arith, before .all))
 
 -- ---- the state that keeps the rest of a text
 
