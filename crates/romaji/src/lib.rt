@@ -36,7 +36,7 @@ use romaji_spec::Typed;
 fn has_empty_key(image: &[u8]) -> bool
     ensures { λ r. ⌜ r ≡ hasEmptyKey (now (image .entry)) ⌝ }
 {
-    let answer = exact(image, &image[..0]);
+    let answer = exact(image, b"");
     let value = answer.value;
     match value {
         Found::Is(_) => true,
@@ -183,5 +183,5 @@ pub fn type_bytes(image: &[u8], kana: &[u8], state: State, typed: &[u8], room: &
 pub fn finish(image: &[u8], kana: &[u8], state: State, room: &mut [u8]) -> Typed
     ensures { λ r. ⌜ record { answer = r; room = now (room .exit) } ≡ finishOf (now (image .entry)) (now (kana .entry)) state (now (room .entry)) ⌝ }
 {
-    convert(image, kana, state, &kana[..0], room, false)
+    convert(image, kana, state, b"", room, false)
 }
