@@ -1,6 +1,6 @@
 -- The piece at a place of the text, as the code finds it: by a query of the first bytes from there on.
 -- No key is longer than the bytes looked at, and a text of which more is left than can be kept is not kept.
-use Prim.Native.Nat.{ℕ, _+_, _-_, _*_, _/_, _≤_, _<_, min}
+use Prim.Native.Nat.{ℕ, _+_, _-_, _*_, _/_, _%_, _≤_, _<_, min}
 use native.Mathlib.Omega.{arith}
 use mathlib.Core.Path.{_≡_, refl, sym, ap, _∙_}
 use mathlib.Core.Bool.{Bool, true, false, _&&_, not, true≢false}
@@ -22,7 +22,6 @@ use Rattle.lxtr_spec.specs.declared.Exact.{Exact}
 use Rattle.lxtr_spec.specs.declared.Probe.{Probe}
 use Rattle.lxtr_laws.specs.ByteOrders.{big, words-size, words-one}
 use Rattle.lxtr_laws.specs.Overlays.{over}
-use Rattle.lxtr_search.specs.Kept.{longest-bytes}
 use Rattle.romaji_spec.specs.KanaTables.{textBytes, kanaOf}
 use Rattle.romaji_spec.specs.Pieces.{maxKept, couldGrow, matched, matchedValue, pieceBy, pieceAt, pieceText, pieceOut}
 use Rattle.romaji_spec.specs.Typing.{isValue, hasEmptyKey}
@@ -44,7 +43,7 @@ pub record Looked (b q : List ℕ) (n : ℕ) (o : Option ℕ) : Type 0 where
   pub moves : 1 ≤ n
 
 -- part is what `longest` handed back, f what `exact` gave for it
-module _ (b q : List ℕ) (no-empty : hasEmptyKey b ≡ false) (k : ℕ) (part : List ℕ) (longest : _≡_ {A = LongestAnswer} (record { refusal = k; part = part }) (longestOf b q))
+module _ (b q : List ℕ) (no-empty : hasEmptyKey b ≡ false) (whole : length q % 4 ≡ 0) (k : ℕ) (part : List ℕ) (longest : _≡_ {A = LongestAnswer} (record { refusal = k; part = part }) (longestOf b q))
     (e : Exact) (exact : exactMeans e ≡ exactOf b part) where
   is-part : part ≡ longestOf b q .part
   is-part = ap (λ (a : LongestAnswer). a .part) longest
@@ -55,9 +54,10 @@ module _ (b q : List ℕ) (no-empty : hasEmptyKey b ≡ false) (k : ℕ) (part :
   pub looked-none : e .value ≡ Nothing → Looked b q 1 none
   looked-none h = record { value = sym (ap found h) ∙ is-value; size = refl; moves = omega arith }
 
-  part-size : length part ≡ 4 * longestLength b q
+  -- the part is whole labels, as the query is
+  part-size : 1 ≤ length part → 4 ≤ length part
   unfolding longestOf
-  part-size = ap length is-part ∙ length-take-le (4 * longestLength b q) q (longest-bytes b q)
+  part-size h = omega (arith, ap length is-part, length-take (4 * longestLength b q) q)
 
   pub looked-some : (v : ℕ) → e .value ≡ Is v → Looked b q (length part / 4) (some v)
   unfolding hasEmptyKey isValue
@@ -69,7 +69,7 @@ module _ (b q : List ℕ) (no-empty : hasEmptyKey b ≡ false) (k : ℕ) (part :
     where
       go : (p : List ℕ) → part ≡ p → found (e .value) ≡ exactOf b part .value → 1 ≤ length part / 4
       go [] z f = absurd (true≢false (sym (ap isValue (sym (rw (z, h) at f))) ∙ no-empty))
-      go (x ∷ p) z f = let s : 1 ≤ length part = rw z (omega arith) in omega (arith, part-size)
+      go (x ∷ p) z f = let s : 1 ≤ length part = rw z (omega arith) in omega (arith, part-size s)
 
 -- ---- the piece at the front of a query, and at a place of the text
 
@@ -107,7 +107,7 @@ module _ (keeping : Bool) (b q : List ℕ) where
     front-goes n o h l = looked (sym known ∙ h) l
 
 -- the bytes of a text from a place on, as a query at the front of an array
-pub query-part : (z xs q : List ℕ) (m : ℕ) → q ≡ over z 0 (beWords xs) → m ≡ length xs → take (4 * m) q ≡ beWords xs
+query-part : (z xs q : List ℕ) (m : ℕ) → q ≡ over z 0 (beWords xs) → m ≡ length xs → take (4 * m) q ≡ beWords xs
 unfolding over
 query-part z xs q m e h = rw e (take-append-le (4 * m) (beWords xs) (drop (0 + length (beWords xs)) z) (omega (arith, words-size big xs)) ∙ take-all (4 * m) (beWords xs) (omega (arith, words-size big xs)))
 
@@ -153,10 +153,16 @@ module _ (keeping : Bool) (b kept typed : List ℕ) (at l m : ℕ) (z q : List �
   rest-length : length rest ≡ l - at
   rest-length = omega (arith, length-drop at (kept ++ typed), length-append kept typed)
 
+  is-query : q ≡ over z 0 (beWords (take m rest)) → take (4 * m) q ≡ beWords (take m rest)
+  is-query e = query-part z (take m rest) q m e (omega (arith, length-take m rest, rest-length))
+
+  pub looks-whole : q ≡ over z 0 (beWords (take m rest)) → length (take (4 * m) q) % 4 ≡ 0
+  looks-whole e = omega (arith, ap length (is-query e), words-size big (take m rest))
+
   pub next-found : (n : ℕ) (o : Option ℕ) → q ≡ over z 0 (beWords (take m rest)) → FrontIs (keeping && leb (l - at) maxKept) b (take (4 * m) q) n o → NextIs keeping b rest n o
   next-found n o e f =
       let same : take m rest ≡ take maxLabels rest = take-least rest m maxLabels (omega (arith, rest-length)) in
-      next-is b rest keeping n o (rw (rest-length, ← same, ← query-part z (take m rest) q m e (omega (arith, length-take m rest, rest-length))) f)
+      next-is b rest keeping n o (rw (rest-length, ← same, ← is-query e) f)
 
 -- ---- what goes out for a piece
 

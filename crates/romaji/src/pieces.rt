@@ -2,7 +2,7 @@
 ghost use mathlib.Core.Path.{_≡_};
 ghost use mathlib.Core.List.{_++_};
 ghost use mathlib.Core.Bool.{false, _&&_};
-ghost use Prim.Native.Nat.{_+_, _*_, _≤_, _<_};
+ghost use Prim.Native.Nat.{_+_, _*_, _%_, _≤_, _<_};
 ghost use lib.ListN.{length, getD, drop};
 ghost use Rattle.lxtr_spec.specs.Numbers.{beWords};
 ghost use Rattle.lxtr_spec.specs.Labels.{labelsOf};
@@ -46,6 +46,7 @@ fn waits(image: &[u8], query: &[u8], keeping: bool) -> bool
 // The longest key at the front of a query, or one label if there is none.
 fn longest_key(image: &[u8], query: &[u8]) -> Next
     requires { ⌜ hasEmptyKey (now image) ≡ false ⌝ }
+    requires { ⌜ length (now query) % 4 ≡ 0 ⌝ }
     ensures { λ r. ⌜ Looked (now (image .entry)) (now (query .entry)) (r .length) (found (r .value)) ⌝ }
 {
     let mut refusal: u8 = 0;
@@ -67,6 +68,7 @@ fn longest_key(image: &[u8], query: &[u8]) -> Next
 // The piece at the front of a query.
 fn front_piece(image: &[u8], query: &[u8], keeping: bool) -> Next
     requires { ⌜ hasEmptyKey (now image) ≡ false ⌝ }
+    requires { ⌜ length (now query) % 4 ≡ 0 ⌝ }
     ensures { λ r. ⌜ FrontIs keeping (now (image .entry)) (now (query .entry)) (r .length) (found (r .value)) ⌝ }
 {
     if waits(image, query, keeping) {

@@ -5,7 +5,7 @@ use mathlib.Core.Path.{sym}
 use lib.Seq.{length-take-le}
 use Rattle.lxtr_spec.specs.Labels.{maxLabels}
 use Rattle.romaji_spec.specs.Pieces.{maxKept}
-use Rattle.romaji.specs.NextPieces.{looks-within, next-found}
+use Rattle.romaji.specs.NextPieces.{looks-within, looks-whole, next-found}
 use Rattle.romaji.proofs.pieces.next_piece.Statement.{statement}
 use Rattle.romaji.proofs.pieces.next_piece.Tie as tie
 
@@ -22,5 +22,5 @@ next-piece-spec =
     (λ c. omega arith)
     (λ c. omega arith)
     (λ c. sym (length-take-le _ _ (omega arith)))
-    (λ c κs. search needs)
+    (λ c κs. (search needs, search looks-whole))
     (λ c. search next-found))
