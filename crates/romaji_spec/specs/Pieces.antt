@@ -24,7 +24,7 @@ pub data Piece : Type 0 where
   key : List ℕ → ℕ → Piece
   byte : ℕ → Piece
 
--- At each place the longest matching key wins: the longest match, as a query. (No key is longer than the first 64 bytes.)
+-- At each place the longest matching key wins: the longest match, as a query. (No key has more labels than are looked at.)
 unfoldable pub matched : List ℕ → List ℕ → List ℕ
 matched b r = longestOf b (beWords (take maxLabels r)) .part
 
