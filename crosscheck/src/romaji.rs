@@ -84,8 +84,10 @@ struct Romaji {
 
 impl Romaji {
     fn new(rules: Rules, image: &Image, kana: &[u8]) -> Romaji {
-        let pairs: BTreeMap<Key, u32> =
-            oracle::candidate(image).into_iter().map(|pair| (pair.labels, pair.value)).collect();
+        let mask = rules.either(u32::MAX, Wrong::LowestBytesMatch, 0xFF);
+        let key = |labels: Key| labels.into_iter().map(|label| label & mask).collect::<Key>();
+        let pairs = oracle::candidate(image).into_iter();
+        let pairs: BTreeMap<Key, u32> = pairs.map(|pair| (key(pair.labels), pair.value)).collect();
         let longest = pairs.keys().map(Vec::len).max().unwrap_or(0);
         Romaji { rules, pairs, longest, texts: texts_in(rules, kana) }
     }
@@ -132,7 +134,7 @@ impl Romaji {
 
     /// Whether the text of some value is not whole.
     fn lacks_text(&self, pieces: &[Piece]) -> bool {
-        let texts = self.texts.len();
+        let texts = self.texts.len() + self.rules.either(0, Wrong::LastTextMayLack, 1);
         let lacks = |value: u32| value as usize >= texts;
         let mut values = self.pairs.values().copied();
         if self.rules.breaks(Wrong::OnlyTypedTextsWhole) {

@@ -131,6 +131,7 @@ wrong_variants! {
     EmptyKeyAfterRoom: "refusal 25 is tested after 29",
     TextForEachPair: "24 asks for as many texts as pairs, whatever their values",
     OnlyTypedTextsWhole: "24 looks only at the texts that go out",
+    LastTextMayLack: "24 takes a table that ends before the last text",
     LastTextMayBeCut: "24 takes a text whose labels are cut short",
     TableEndsWithTexts: "24 is given for a table that goes on after the last text",
     TableLabelsChecked: "24 is given for a number in the table that is no scalar",
@@ -164,6 +165,7 @@ wrong_variants! {
     FirstLabelOnly: "only the first label of a text goes out",
     NextPlaceByOne: "after a key the place moves by one byte",
     WalkPassesWhole: "all bytes that begin a key pass at once if no key matches",
+    LowestBytesMatch: "a label above 255 matches the byte that is its lowest",
     BytesAreSigned: "bytes above 127 are labels with all high bits set",
     // The key list.
     KeyLimit32767: "a count of 32,768 is refused",

@@ -55,7 +55,7 @@ fn main() -> ExitCode {
     };
     stage("examples", &|comparison, _| examples::run(comparison));
     stage("typing examples", &|comparison, _| typing_examples::run(comparison));
-    stage("states", &|comparison, random| states::run(comparison, random, amount));
+    stage("any states", &|comparison, random| states::run(comparison, random, amount));
     stage("all small ones", &|comparison, _| tiny::run(comparison));
     stage("malformed lists", &|comparison, random| bad_lists::run(comparison, random, amount));
     stage("wild images", &|comparison, random| wild::run(comparison, random, amount));

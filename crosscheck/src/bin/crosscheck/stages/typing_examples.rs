@@ -16,8 +16,8 @@ type Rows = [(&'static str, &'static str)];
 const N_NA: &Rows = &[("n", "ん"), ("na", "な")];
 /// A text without labels, one with two, and a key that goes on where another ends.
 const MORE: &Rows = &[("a", "あ"), ("b", ""), ("kka", "っか"), ("kyab", "きゃ"), ("y", "や")];
-/// A key that cannot be typed.
-const NOT_TYPED: &Rows = &[("k", "か"), ("kあ", "き"), ("n", "ん"), ("nyu", "にゅ")];
+/// A key that cannot be typed; the lowest byte of its last label is a letter.
+const NOT_TYPED: &Rows = &[("k", "か"), ("k\u{161}", "き"), ("n", "ん"), ("nyu", "にゅ")];
 const WITH_EMPTY_KEY: &Rows = &[("", "?"), ("n", "ん"), ("na", "な")];
 
 const TEXTS: [&[u8]; 9] =
