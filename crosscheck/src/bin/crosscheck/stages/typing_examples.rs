@@ -5,7 +5,7 @@ use super::typing::{every_room, every_table_length, finish, type_text};
 use crate::comparison::Comparison;
 use crate::tables::{state_of, RomajiTable};
 use crosscheck::builder::image_of;
-use crosscheck::common::{query_of, KEY_LABELS};
+use crosscheck::common::KEY_LABELS;
 use crosscheck::image::{Image, TOP_BIT};
 use crosscheck::keylist::{to_bytes, Key};
 use crosscheck::rules::Rules;
@@ -52,18 +52,16 @@ fn table_of(image: &Image, rows: &Rows) -> RomajiTable {
     RomajiTable::new(image.to_bytes(), keys, &texts)
 }
 
-/// Values 2 and 0, a text for each number from 0 to 3, and a number that is no scalar value.
+/// Values 2 and 0, with a text for each number from 0 to 3, and with texts that are no scalar values.
 fn sparse_values(comparison: &mut Comparison) {
     let mut image = built(N_NA);
     let ends = image.nodes.iter_mut().filter(|node| node.is_leaf());
     ends.zip([2, 0]).for_each(|(end, value)| end.base = TOP_BIT | value);
-    let mut table = table_of(&image, &MORE[..4]);
+    let table = table_of(&image, &MORE[..4]);
     every_table_length(comparison, &table, &state_of(b""), b"na-n");
     every_table_length(comparison, &table, &state_of(b""), b"-");
-    table.kana.truncate(1);
-    table.kana.extend(query_of(&[0xD800]));
-    table.kana.extend([0, 1]);
-    table.kana.extend(query_of(&[u32::MAX]));
+    let texts = [vec![0xD800], vec![], vec![u32::MAX]];
+    let table = RomajiTable::new(image.to_bytes(), table.keys, &texts);
     every_room(comparison, &table, &state_of(b"n"), b"ann");
 }
 
