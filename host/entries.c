@@ -1,7 +1,7 @@
 /*
  * entries: calls each function of lxtr.h on a dictionary of two words, n (value 0) and na (value 1), and then on the same image
- * with one child changed in the children lists. Every lookup still succeeds. Only lxtr_check, lxtr_fault, lxtr_highest and
- * lxtr_complete notice the fault.
+ * with one child changed in the children lists. Every lookup still succeeds. Only lxtr_check, lxtr_fault, lxtr_highest,
+ * lxtr_complete, lxtr_romaji_type and lxtr_romaji_finish notice the fault.
  *
  *     entries
  */
@@ -13,6 +13,10 @@
 
 static const uint8_t keys[] = { 1, 0, 0, 0, 2, 1, 0, 0, 0, 'n', 2, 0, 0, 0, 'n', 0, 0, 0, 'a' };
 static const uint8_t text[] = { 0, 0, 0, 'n', 0, 0, 0, 'a', 0, 0, 0, 'n' };
+
+/* The kana table: one label for n, one for na. */
+static const uint8_t kana[] = { 1, 0, 0, 0x30, 0x93, 1, 0, 0, 0x30, 0x6A };
+static const uint8_t typed[] = { 'n', 'a', 'n' };
 
 /* The lengths in bytes of the front parts n and na of the text. */
 enum { N = 4, NA = 8 };
@@ -39,6 +43,26 @@ static void show_bytes(const uint8_t *bytes, size_t length)
 	printf("\n");
 }
 
+static void show_typing(const uint8_t *image, size_t length)
+{
+	uint8_t state[LXTR_ROMAJI_STATE_BYTES] = { 0 };
+	uint8_t room[8];
+
+	memset(room, 0xEE, sizeof room);
+	show("type nan", lxtr_romaji_type(image, length, kana, sizeof kana, state, sizeof state, typed, sizeof typed, room, 8));
+	printf("room            ");
+	show_bytes(room, sizeof room);
+	printf("state           ");
+	show_bytes(state, 4);
+	show("type nan in 7", lxtr_romaji_type(image, length, kana, sizeof kana, state, sizeof state, typed, sizeof typed, room, 7));
+	show("type, kana cut", lxtr_romaji_type(image, length, kana, sizeof kana - 1, state, sizeof state, typed, 1, room, 8));
+	show("finish", lxtr_romaji_finish(image, length, kana, sizeof kana, state, sizeof state, room, sizeof room));
+	printf("room            ");
+	show_bytes(room, sizeof room);
+	printf("state           ");
+	show_bytes(state, 4);
+}
+
 static void show_answers(const uint8_t *image, size_t length)
 {
 	uint32_t places[5] = { 7, 7, 7, 7, 7 };
@@ -62,6 +86,7 @@ static void show_answers(const uint8_t *image, size_t length)
 	show_bytes(room, sizeof room);
 	show("complete in 20", lxtr_complete(image, length, NULL, 0, room, 20));
 	show("complete in 4", lxtr_complete(image, length, text, N, room, 4));
+	show_typing(image, length);
 }
 
 int main(void)

@@ -25,11 +25,11 @@
  *   the memory that it is passed. It always returns. The same input always gives the same answer.
  * - Memory is passed as a pointer and a length: bytes for uint8_t, words for uint32_t. A pointer may be null if its length is 0.
  *   Bytes need no alignment.
- * - Lent memory is memory that a function writes: places, room, work, out. It must not overlap anything else that is passed in
- *   the same call. Memory that is only read may overlap.
+ * - Lent memory is memory that a function writes: places, room, state, work, out. It must not overlap anything else that is passed
+ *   in the same call. Memory that is only read may overlap.
  * - It keeps no pointer after it returns, allocates nothing and has no state of its own, so any number of threads may call it.
- * - Stack, measured on x86-64: at most about 490 KB for lxtr_build, 33 KB for lxtr_fault, 17 KB for lxtr_check,
- *   lxtr_highest and lxtr_complete, 1 KB for the others.
+ * - Stack, measured on x86-64: at most about 490 KB for lxtr_build, 33 KB for lxtr_fault, 17 KB for lxtr_check, lxtr_highest,
+ *   lxtr_complete, lxtr_romaji_type and lxtr_romaji_finish, 1 KB for the others.
  *
  * WHAT AN ANSWER MEANS
  *
@@ -81,6 +81,9 @@ extern "C" {
 #define LXTR_MIN_WORK_WORDS 4
 #define LXTR_MAX_WORK_WORDS 131072
 
+/* The size of the state of romaji typing: a byte with the number of bytes kept, and as many as can be kept. */
+#define LXTR_ROMAJI_STATE_BYTES LXTR_MAX_LABELS
+
 /* The size of the largest image. */
 #define LXTR_MAX_IMAGE_BYTES 1064981
 
@@ -98,7 +101,7 @@ enum lxtr_reason {
 	LXTR_WRONG_MAP = 7,            /* M is below 5, the version of the code map is not 1, L is above 4,095, or M is not 5 + 4 L */
 	LXTR_WRONG_OFFSET_ENDS = 8,    /* the first offset is not 0, or the last is not E */
 
-	/* of an image, by lxtr_check, lxtr_fault, lxtr_highest and lxtr_complete, in this order */
+	/* of an image, in this order, by every function that takes one except lxtr_exact, lxtr_probe, lxtr_longest and lxtr_prefixes */
 	LXTR_WRONG_LABELS = 9,         /* a listed label is not a scalar value, or is listed twice */
 	LXTR_WRONG_SLOTS = 10,         /* a slot does not fit its parent or its end, or is unused and not zero; all searches read slots */
 	LXTR_WRONG_LISTS = 11,         /* a children list does not fit the slots; lxtr_complete reads lists, lxtr_probe their lengths */
@@ -117,7 +120,12 @@ enum lxtr_reason {
 	LXTR_TOO_MANY_LABELS = 20,     /* more than 4,095 different labels */
 	LXTR_WORK_TOO_SMALL = 21,      /* fewer than 4 words of work */
 	LXTR_TOO_FEW_SLOTS = 22,       /* no base fits some slot: lend more work; more than LXTR_MAX_WORK_WORDS does not help */
-	LXTR_OUT_TOO_SMALL = 23        /* the image is longer than out */
+	LXTR_OUT_TOO_SMALL = 23,       /* the image is longer than out */
+
+	/* of lxtr_romaji_type and lxtr_romaji_finish, after those of an image, in this order */
+	LXTR_TABLE_TOO_SHORT = 24,     /* the kana table ends before the text of some value of the image is whole */
+	LXTR_EMPTY_KEY = 25,           /* the image has the empty key */
+	LXTR_NO_ROOM = 29              /* the room is too small for what goes out */
 };
 
 /* The kinds of fault of refusal 11, LXTR_WRONG_LISTS, that lxtr_fault tells apart. */
@@ -228,6 +236,50 @@ uint64_t lxtr_prefixes(const uint8_t *image, size_t image_length, const uint8_t 
  */
 uint64_t lxtr_complete(const uint8_t *image, size_t image_length, const uint8_t *prefix, size_t prefix_length,
                        uint8_t *room, size_t room_length);
+
+/*
+ * Turns typed bytes into kana, one key press or many bytes in a call. The keys of the image are the romaji, such as ka; each byte
+ * is the label of its number. The number is how many labels go out, modulo 2^32. Refusals: 1 to 12, 24, 25, 29, in this order.
+ * Each call checks the whole image.
+ *
+ * The text is what the call before kept, followed by typed. From its front on, at each place:
+ * - if all that is left of the text is the beginning of a longer key, it is kept, and nothing more goes out;
+ * - if not, the longest key with which the rest of the text begins is taken, and its kana goes out;
+ * - if there is no such key, one byte passes: the label of its number goes out.
+ * With n for U+3093 and na for U+306A, n is kept. If a comes next, U+306A goes out; if n comes next, U+3093 goes out, and the
+ * second n is kept. A text may be typed in any number of calls: the same goes out, and the same is kept. A key with a label above
+ * 255 cannot be typed, but its beginning is kept like any other.
+ *
+ * kana is the kana table of the image. It has a text for each value number from 0 to the highest of the image: a byte with the
+ * number of labels, and the labels in four bytes each, the highest byte first. A number that no key has as its value has a text
+ * too, which may be a single 0. The numbers in a text need not be scalar values, and bytes past the last text are not read.
+ *
+ * state holds what is kept, in LXTR_ROMAJI_STATE_BYTES bytes: the number of kept bytes, from 0 to 63, then these bytes, then
+ * zeros. Before the first call all are zeros; after that, pass what the call before left. What waits is thus the state[0] bytes
+ * at state + 1, and a host may show it. It may come from a call with another image. A state of another length, or with bytes that
+ * no call leaves, is not refused: the call returns and keeps to its memory, but what it answers is not specified.
+ *
+ * Afterwards the labels that go out are at the front of the room, in four bytes each, the highest byte first. Bytes past them are
+ * unchanged. What is kept needs no room. Each byte of the text gives at most as many labels as the longest text of the table has,
+ * or one. To type one key, with a table whose texts have at most two labels:
+ *
+ *     uint8_t state[LXTR_ROMAJI_STATE_BYTES] = { 0 };        before the first key
+ *     uint8_t room[4 * 2 * LXTR_ROMAJI_STATE_BYTES];         for 63 kept bytes and one more
+ *
+ *     uint64_t out = lxtr_romaji_type(image, image_length, kana, kana_length, state, sizeof state, &key, 1, room, sizeof room);
+ *     if (lxtr_refusal(out) == 0)
+ *         show(room, lxtr_number(out), state + 1, state[0]);
+ */
+uint64_t lxtr_romaji_type(const uint8_t *image, size_t image_length, const uint8_t *kana, size_t kana_length,
+                          uint8_t *state, size_t state_length, const uint8_t *typed, size_t typed_length,
+                          uint8_t *room, size_t room_length);
+
+/*
+ * Ends typing, when the clerk finishes: what is kept goes out by the same rule, but nothing is kept any more. After n, U+3093
+ * goes out. Afterwards the state is all zeros. Table, state, room, number and refusals are those of lxtr_romaji_type.
+ */
+uint64_t lxtr_romaji_finish(const uint8_t *image, size_t image_length, const uint8_t *kana, size_t kana_length,
+                            uint8_t *state, size_t state_length, uint8_t *room, size_t room_length);
 
 /*
  * Builds the image of a key list. The number is the length of the image in bytes. The first key gets value 0, the next 1, and so

@@ -2,7 +2,7 @@
 
 use crate::functions::{
     lxtr_build, lxtr_check, lxtr_complete, lxtr_exact, lxtr_highest, lxtr_longest, lxtr_prefixes,
-    lxtr_probe,
+    lxtr_probe, lxtr_romaji_type,
 };
 
 // SAFETY of every call below: a slice is valid for its length, and one lent by
@@ -39,6 +39,25 @@ pub fn complete(image: &[u8], prefix: &[u8], room: &mut [u8]) -> u64 {
     let (room, room_len) = (room.as_mut_ptr(), room.len());
     unsafe {
         lxtr_complete(image.as_ptr(), image.len(), prefix.as_ptr(), prefix.len(), room, room_len)
+    }
+}
+
+pub fn romaji_type(
+    image: &[u8],
+    kana: &[u8],
+    state: &mut [u8],
+    typed: &[u8],
+    room: &mut [u8],
+) -> u64 {
+    let (state, state_len) = (state.as_mut_ptr(), state.len());
+    let (room, room_len) = (room.as_mut_ptr(), room.len());
+    let (image, image_len) = (image.as_ptr(), image.len());
+    let (kana, kana_len, typed, typed_len) =
+        (kana.as_ptr(), kana.len(), typed.as_ptr(), typed.len());
+    unsafe {
+        lxtr_romaji_type(
+            image, image_len, kana, kana_len, state, state_len, typed, typed_len, room, room_len,
+        )
     }
 }
 

@@ -2,6 +2,7 @@
 
 use crate::clock::thread_time;
 use crate::dictionary::Dictionary;
+use crosscheck::romaji;
 use std::hint::black_box;
 use std::time::Duration;
 
@@ -10,7 +11,7 @@ const SAMPLE: usize = 20;
 /// The number of calls on which a slow contestant is compared.
 const FEW: usize = 64;
 
-/// One call: the dictionary that it is about, and the query, if there is one.
+/// One call: the dictionary that it is about, and the query or the typed text, if there is one.
 #[derive(Clone, Copy)]
 pub struct Call<'a> {
     pub of: &'a Dictionary,
@@ -22,6 +23,14 @@ pub struct Call<'a> {
 pub struct Lent {
     pub words: Vec<u32>,
     pub bytes: Vec<u8>,
+    pub state: Vec<u8>,
+}
+
+impl Lent {
+    /// The state, and the bytes as room.
+    pub fn for_typing(&mut self) -> romaji::Lent<'_> {
+        romaji::Lent { state: &mut self.state, room: &mut self.bytes }
+    }
 }
 
 /// One way to answer the calls of an operation.

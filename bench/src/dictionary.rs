@@ -27,7 +27,11 @@ pub struct Dictionary {
 impl Dictionary {
     /// The dictionary of `count` readings; an error says what refused it.
     pub fn new(seed: u64, count: usize) -> Result<Dictionary, String> {
-        let keys = Readings::new(seed).list(count);
+        Dictionary::of(Readings::new(seed).list(count))
+    }
+
+    /// The dictionary of these keys, which ascend.
+    pub fn of(keys: Vec<Key>) -> Result<Dictionary, String> {
         let list = keylist::to_bytes(&keys);
         let image = image_of(&list)?;
         let parsed = Parsed::of(&image).map_err(|refusal| format!("parsing: {refusal:?}"))?;

@@ -1,5 +1,6 @@
 //! Times the archive's functions beside the independent implementation, on
-//! generated dictionaries of three sizes. Their answers are compared first.
+//! generated dictionaries of three sizes and a romaji table. Their answers are
+//! compared first.
 //!
 //!     bench [--quick]
 //!
@@ -10,7 +11,7 @@ mod calls;
 mod clock;
 mod contestant;
 mod dictionary;
-#[allow(dead_code)] // lxtr_fault is not measured
+#[allow(dead_code)] // lxtr_fault and lxtr_romaji_finish are not measured
 #[path = "../../crosscheck/src/bin/crosscheck/functions.rs"]
 mod functions;
 mod keys;
@@ -18,13 +19,16 @@ mod measure;
 mod operations;
 mod parsed;
 mod random;
+mod romaji;
 mod table;
+mod typing;
 mod workload;
 
-use measure::Effort;
+use measure::{Effort, Plan};
 use operations::Operation;
 use std::process::ExitCode;
 use table::{grouped, Row, Table};
+use typing::Typing;
 use workload::Workload;
 
 const SIZES: [usize; 3] = [1_000, 5_000, 20_000];
@@ -51,22 +55,43 @@ fn main() -> ExitCode {
 fn run(sizes: &[usize], effort: Effort) -> Result<(), String> {
     let workloads: Vec<Workload> =
         sizes.iter().map(|size| Workload::new(*size)).collect::<Result<_, _>>()?;
+    let typing = Typing::new()?;
     println!("{}", explanation(effort));
     workloads.iter().for_each(|on| println!("{}", on.dictionaries[0].describe()));
+    println!("romaji, {}", typing.dictionary.describe());
     let mut compared = 0;
     for operation in Operation::ALL {
-        let mut table = Table { title: operation.title(), rows: Vec::new() };
-        for (&keys, on) in sizes.iter().zip(&workloads) {
-            let mut contestants = operation.contestants(on);
-            compared += measure::compare(&mut contestants)
-                .map_err(|what| format!("{}; {keys} keys, {what}", operation.title()))?;
-            let times = measure::times(&mut contestants, effort);
-            table.rows.push(Row { keys, amount: operation.amount(on), times });
-        }
-        print!("\n{table}");
+        let plan =
+            |(keys, on)| Plan::new(grouped(keys), operation.amount(on), operation.contestants(on));
+        let plans = sizes.iter().copied().zip(&workloads).map(plan);
+        compared += measured(operation.title(), ["keys", "growth"], plans, effort)?;
     }
+    let title = "type, one key: a call checks the image of the romaji table and types one byte";
+    compared += measured(title, ["call", "to check"], typing.one_key(), effort)?;
+    let title = "type, texts: a call checks the image of the romaji table and types a text";
+    compared += measured(title, ["bytes", "growth"], typing.whole_texts(), effort)?;
     println!("\nbench: {} answers compared, all equal", grouped(compared));
     Ok(())
+}
+
+/// Compares and times each row, and prints the table with this head of its first column and this
+/// name of its last line. Returns how many answers were compared.
+fn measured<'a>(
+    title: &'static str,
+    [head, last]: [&'static str; 2],
+    plans: impl IntoIterator<Item = Plan<'a>>,
+    effort: Effort,
+) -> Result<usize, String> {
+    let mut table = Table { title, head, rows: Vec::new(), last };
+    let mut compared = 0;
+    for Plan { name, amount, mut contestants } in plans {
+        compared += measure::compare(&mut contestants)
+            .map_err(|what| format!("{title}; {name} ({head}), {what}"))?;
+        let times = measure::times(&mut contestants, effort);
+        table.rows.push(Row { name, amount, times });
+    }
+    print!("\n{table}");
+    Ok(compared)
 }
 
 fn explanation(effort: Effort) -> String {
@@ -76,7 +101,8 @@ Mean processor time of a call, the least of up to {} passes. One thread, buffers
 Rust          the independent implementation, from the same bytes to the same answer
 Rust, parsed  the same, but the image was parsed into its vectors before
 ratio         product's time divided by Rust's
-growth        time with the most keys divided by time with the fewest
+growth        time with the most keys or bytes divided by time with the fewest
+to check      time of typing one key divided by time of checking the image
 ",
         effort.sweeps
     )

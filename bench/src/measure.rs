@@ -24,6 +24,24 @@ impl Effort {
 
 pub type Contestants<'a> = Vec<Box<dyn Contestant + 'a>>;
 
+/// A row that is to be measured.
+pub struct Plan<'a> {
+    pub name: String,
+    /// What the throughput counts, and how much of it a call handles.
+    pub amount: (&'static str, f64),
+    pub contestants: Contestants<'a>,
+}
+
+impl<'a> Plan<'a> {
+    pub fn new(
+        name: impl Into<String>,
+        amount: (&'static str, f64),
+        contestants: Contestants<'a>,
+    ) -> Plan<'a> {
+        Plan { name: name.into(), amount, contestants }
+    }
+}
+
 /// Compares all contestants with the first one, in each answer and all lent
 /// memory. Returns how many comparisons there were, or what differs.
 pub fn compare(contestants: &mut Contestants) -> Result<usize, String> {
@@ -48,8 +66,11 @@ pub fn compare(contestants: &mut Contestants) -> Result<usize, String> {
     Ok(compared)
 }
 
+/// A query as text: its labels, or its bytes if these are not labels.
 fn text(query: &[u8]) -> String {
-    labels_in(query).into_iter().filter_map(char::from_u32).collect()
+    let labels: Option<String> = labels_in(query).into_iter().map(char::from_u32).collect();
+    let whole = labels.filter(|_| query.len().is_multiple_of(4));
+    whole.unwrap_or_else(|| String::from_utf8_lossy(query).into_owned())
 }
 
 /// The least time of a call in seconds, for each contestant. They take turns, and

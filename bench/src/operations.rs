@@ -76,8 +76,8 @@ impl Operation {
     /// The contestants in the order of the table's columns.
     pub fn contestants(self, on: &Workload) -> Contestants<'_> {
         match self {
-            Operation::Check => check(on),
-            Operation::Highest => highest(on),
+            Operation::Check => check(&each_once(on)),
+            Operation::Highest => highest(&each_once(on)),
             Operation::ExactPresent => exact(&searches(on, slices(&on.present))),
             Operation::ExactAbsent => exact(&searches(on, slices(&on.absent))),
             Operation::Prefixes => prefixes(on),
@@ -90,9 +90,9 @@ impl Operation {
     }
 }
 
-fn check(on: &Workload) -> Contestants<'_> {
+pub fn check<'a>(calls: &[Call<'a>]) -> Contestants<'a> {
     three(
-        &in_turn(on, vec![&[]; on.dictionaries.len()]),
+        calls,
         &Lent::default(),
         |call, _| calls::check(&call.of.image),
         |call, _| answers::check(RULES, &call.of.image),
@@ -100,9 +100,9 @@ fn check(on: &Workload) -> Contestants<'_> {
     )
 }
 
-fn highest(on: &Workload) -> Contestants<'_> {
+fn highest<'a>(calls: &[Call<'a>]) -> Contestants<'a> {
     three(
-        &in_turn(on, vec![&[]; on.dictionaries.len()]),
+        calls,
         &Lent::default(),
         |call, _| calls::highest(&call.of.image),
         |call, _| answers::highest(RULES, &call.of.image),
@@ -123,7 +123,7 @@ fn exact<'a>(queries: &[Call<'a>]) -> Contestants<'a> {
 fn prefixes(on: &Workload) -> Contestants<'_> {
     three(
         &searches(on, on.positions()),
-        &Lent { words: vec![0; PLACE_WORDS], bytes: Vec::new() },
+        &Lent { words: vec![0; PLACE_WORDS], ..Lent::default() },
         |call, lent| calls::prefixes(&call.of.image, call.query, &mut lent.words),
         |call, lent| answers::prefixes(RULES, &call.of.image, call.query, &mut lent.words),
         |call, lent| call.of.parsed.prefixes(call.query, &mut lent.words),
@@ -154,7 +154,7 @@ fn complete<'a>(on: &'a Workload, prefixes: Vec<&'a [u8]>) -> Contestants<'a> {
     let room = on.dictionaries.iter().map(Dictionary::room).max().unwrap_or_default();
     three(
         &in_turn(on, prefixes),
-        &Lent { words: Vec::new(), bytes: vec![0; room] },
+        &Lent { bytes: vec![0; room], ..Lent::default() },
         |call, lent| calls::complete(&call.of.image, call.query, &mut lent.bytes),
         |call, lent| answers::complete(RULES, &call.of.image, call.query, &mut lent.bytes),
         |call, lent| call.of.parsed.complete(call.query, &mut lent.bytes),
@@ -163,9 +163,10 @@ fn complete<'a>(on: &'a Workload, prefixes: Vec<&'a [u8]>) -> Contestants<'a> {
 
 /// Has no third contestant, because there is no image to parse beforehand.
 fn build(on: &Workload) -> Contestants<'_> {
+    let lent = Lent { words: vec![0; WORK_WORDS], bytes: vec![0; IMAGE_BYTES], ..Lent::default() };
     two(
-        &in_turn(on, vec![&[]; on.dictionaries.len()]),
-        &Lent { words: vec![0; WORK_WORDS], bytes: vec![0; IMAGE_BYTES] },
+        &each_once(on),
+        &lent,
         |call, lent| calls::build(&call.of.list, &mut lent.words, &mut lent.bytes),
         |call, lent| answers::build(RULES, &call.of.list, &mut lent.words, &mut lent.bytes),
     )
@@ -183,7 +184,7 @@ fn two<'a>(
     ]
 }
 
-fn three<'a>(
+pub fn three<'a>(
     calls: &[Call<'a>],
     lent: &Lent,
     product: impl Fn(&Call, &mut Lent) -> u64 + 'a,
@@ -198,6 +199,11 @@ fn three<'a>(
 /// A call on the first dictionary for each query.
 fn searches<'a>(on: &'a Workload, queries: Vec<&'a [u8]>) -> Vec<Call<'a>> {
     queries.into_iter().map(|query| Call { of: &on.dictionaries[0], query }).collect()
+}
+
+/// A call without a query on each dictionary.
+fn each_once(on: &Workload) -> Vec<Call<'_>> {
+    in_turn(on, vec![&[]; on.dictionaries.len()])
 }
 
 /// A call for each query, on the dictionaries in turn.

@@ -1,10 +1,11 @@
 //! The independent implementation over an image that is already parsed: the
 //! functions of `crosscheck::answers` without their first step.
 
-use crosscheck::answers::value_number;
+use crosscheck::answers::{romaji_number, value_number};
 use crosscheck::check::accept;
 use crosscheck::common::{labels_in, Refusal};
 use crosscheck::image::Image;
+use crosscheck::romaji::{Lent, Press};
 use crosscheck::rules::Rules;
 
 const RULES: Rules = Rules::DOCUMENT;
@@ -60,6 +61,10 @@ impl Parsed {
         let completed = self.0.complete(RULES, &labels_in(prefix), room);
         let more = if completed.stopped { MORE } else { 0 };
         more + u64::from(completed.count)
+    }
+
+    pub fn romaji_type(&self, kana: &[u8], typed: &[u8], lent: Lent) -> u64 {
+        romaji_number(self.0.press(RULES, kana, Press::Type(typed), lent))
     }
 
     /// The answer for the first of refusals 9 to 12 that holds, if one does.

@@ -2,9 +2,9 @@
 
 use std::fmt::{self, Display, Formatter};
 
-/// What was measured of an operation on one dictionary.
+/// What was measured of an operation, on one dictionary or for one length.
 pub struct Row {
-    pub keys: usize,
+    pub name: String,
     /// What the throughput counts, and how much of it a call handles.
     pub amount: (&'static str, f64),
     /// Seconds for a call: the product, Rust, and Rust with the image already
@@ -14,22 +14,31 @@ pub struct Row {
 
 pub struct Table {
     pub title: &'static str,
+    /// The head of the first column, which has the names of the rows.
+    pub head: &'static str,
     pub rows: Vec<Row>,
+    /// The name of the last line, which divides the times of the last row by those of the first.
+    pub last: &'static str,
 }
 
-const HEADS: [&str; 7] =
-    ["keys", "product", "throughput", "Rust", "ratio", "Rust, parsed", "ratio"];
 const WIDTHS: [usize; 7] = [8, 11, 18, 11, 9, 14, 7];
 
 impl Display for Table {
     fn fmt(&self, f: &mut Formatter) -> fmt::Result {
         writeln!(f, "{}", self.title)?;
-        line(f, HEADS.map(String::from))?;
+        line(f, self.heads())?;
         self.rows.iter().try_for_each(|row| line(f, row.cells()))?;
         match &self.rows[..] {
-            [first, .., last] => line(f, growth(first, last)),
+            [first, .., last] => line(f, growth(self.last, first, last)),
             _ => Ok(()),
         }
+    }
+}
+
+impl Table {
+    fn heads(&self) -> [String; 7] {
+        [self.head, "product", "throughput", "Rust", "ratio", "Rust, parsed", "ratio"]
+            .map(String::from)
     }
 }
 
@@ -38,7 +47,7 @@ impl Row {
         let (unit, amount) = self.amount;
         let ratio = |other: usize| self.optional(other, |time| ratio(self.times[0] / time));
         [
-            grouped(self.keys),
+            self.name.clone(),
             duration(self.times[0]),
             rate(amount / self.times[0], unit),
             duration(self.times[1]),
@@ -54,11 +63,12 @@ impl Row {
     }
 }
 
-/// How many times as long a call takes on the last dictionary as on the first.
-fn growth(first: &Row, last: &Row) -> [String; 7] {
-    let times = |at: usize| last.optional(at, |time| format!("x {:.1}", time / first.times[at]));
+/// How many times as long a call takes in the last row as in the first.
+fn growth(name: &str, first: &Row, last: &Row) -> [String; 7] {
+    let times =
+        |at: usize| last.optional(at, |time| format!("x {}", three_digits(time / first.times[at])));
     let nothing = String::new;
-    ["growth".to_string(), times(0), nothing(), times(1), nothing(), times(2), nothing()]
+    [name.to_string(), times(0), nothing(), times(1), nothing(), times(2), nothing()]
 }
 
 fn line(f: &mut Formatter, cells: [String; 7]) -> fmt::Result {

@@ -1,4 +1,4 @@
-//! The nine functions in the archive's form: bytes and lent memory in, one
+//! The eleven functions in the archive's form: bytes and lent memory in, one
 //! number out. That number is refusal * 2^40 plus what the function found.
 
 use crate::builder;
@@ -7,6 +7,7 @@ use crate::common::{Refusal, KEY_LABELS};
 use crate::completion;
 use crate::fault;
 use crate::highest;
+use crate::romaji::{self, Press};
 use crate::rules::{Rules, Wrong};
 use crate::search;
 
@@ -92,6 +93,25 @@ pub fn complete(rules: Rules, image: &[u8], prefix: &[u8], room: &mut [u8]) -> u
         room.fill(0);
     }
     number(completed, |completed| flag(completed.stopped) + u64::from(completed.count))
+}
+
+pub fn romaji_type(
+    rules: Rules,
+    image: &[u8],
+    kana: &[u8],
+    typed: &[u8],
+    lent: romaji::Lent,
+) -> u64 {
+    romaji_number(romaji::press(rules, image, kana, Press::Type(typed), lent))
+}
+
+pub fn romaji_finish(rules: Rules, image: &[u8], kana: &[u8], lent: romaji::Lent) -> u64 {
+    romaji_number(romaji::press(rules, image, kana, Press::Finish, lent))
+}
+
+/// The number of labels that went out counts modulo 2^32.
+pub fn romaji_number(went_out: Result<usize, Refusal>) -> u64 {
+    number(went_out, |labels| u64::from(labels as u32))
 }
 
 pub fn build(rules: Rules, keys: &[u8], work: &mut [u32], out: &mut [u8]) -> u64 {

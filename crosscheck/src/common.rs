@@ -11,12 +11,12 @@ pub const KEYS: u32 = 32_768;
 /// The most steps from an end to slot 1: one for each label, one for the end.
 pub const STEPS: u32 = KEY_LABELS as u32 + 1;
 
-/// A refusal by its number in document 01.
+/// A refusal by its number in the documents.
 #[derive(Clone, Copy, Debug, PartialEq, Eq)]
 pub struct Refusal(pub u8);
 
 /// Refuses with `number` if `fault` holds. Calls with `?`, one after the other,
-/// give document 01's order of refusals.
+/// give the documents' order of refusals.
 pub fn refuse_if(fault: bool, number: u8) -> Result<(), Refusal> {
     if fault {
         Err(Refusal(number))

@@ -1,14 +1,15 @@
-//! LXTR images as document 01 defines them: a second implementation, which shares
-//! nothing with the proved one and is compared with it.
+//! LXTR images as document 01 defines them, and romaji typing as request 1 of
+//! document 02 does: a second implementation, which shares nothing with the proved
+//! one and is compared with it.
 //!
 //! It parses an image into owned vectors and works on those. It often takes
-//! another way to an answer than the sentences of document 01: lists are rebuilt
-//! and compared, depths are memoised, walks are recorded as trails, and first fit
-//! tries 64 bases at once.
+//! another way to an answer than the sentences of the documents: lists are rebuilt
+//! and compared, depths are memoised, walks are recorded as trails, first fit
+//! tries 64 bases at once, and typing looks keys up in a sorted map.
 //!
-//! Every function takes a [`rules::Rules`]. [`rules::Rules::DOCUMENT`] is document
-//! 01; any other value breaks exactly one of its rules, which the comparison
-//! must notice.
+//! Every function takes a [`rules::Rules`]. [`rules::Rules::DOCUMENT`] is what the
+//! documents say; any other value breaks exactly one of their rules, which the
+//! comparison must notice.
 
 pub mod answers;
 pub mod builder;
@@ -22,8 +23,11 @@ pub mod keylist;
 pub mod listing;
 pub mod oracle;
 pub mod random;
+pub mod romaji;
 pub mod rules;
 pub mod search;
 
 #[cfg(test)]
 mod examples;
+#[cfg(test)]
+mod romaji_examples;

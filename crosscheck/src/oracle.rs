@@ -27,7 +27,7 @@ pub fn set_of(image: &Image) -> Option<Vec<Pair>> {
 }
 
 /// The only set the bytes can be an image of: everything that slot 1 leads to.
-fn candidate(image: &Image) -> Vec<Pair> {
+pub fn candidate(image: &Image) -> Vec<Pair> {
     let mut below: HashMap<u32, Vec<u32>> = HashMap::new();
     for slot in 2..image.nodes.len() as u32 {
         below.entry(image.node(slot).parent()).or_default().push(slot);

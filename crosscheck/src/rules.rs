@@ -1,15 +1,16 @@
-//! The rules of document 01, and wrong variants that break one rule each.
+//! The rules of document 01 and of romaji typing, request 1 of document 02, and
+//! wrong variants that break one rule each.
 //!
-//! A comparison that cannot tell a wrong variant from document 01 is too weak.
+//! A comparison that cannot tell a wrong variant from the documents is too weak.
 //! Each variant is tested at the one place where its rule is written, with the
 //! right rule first.
 
-/// Document 01, or document 01 with one rule broken.
+/// The documents, or the documents with one rule broken.
 #[derive(Clone, Copy, Debug, PartialEq, Eq)]
 pub struct Rules(Option<Wrong>);
 
 impl Rules {
-    /// Document 01 as it stands.
+    /// The documents as they stand.
     pub const DOCUMENT: Rules = Rules(None);
 
     pub const fn breaking(wrong: Wrong) -> Rules {
@@ -123,6 +124,49 @@ wrong_variants! {
     GoesOnAfterStop: "a shorter record is written after one without room",
     RoomBehindCleared: "bytes past the last record are cleared",
     RoomClearedByRefusal: "a refused completion clears its room",
+    // Romaji typing: refusals, the kana table, the state.
+    TypingPasses9To12: "typing takes an image that 9 to 12 refuse",
+    TableBefore9: "refusal 24 is tested before 9 to 12",
+    EmptyKeyBeforeTable: "refusal 25 is tested before 24",
+    EmptyKeyAfterRoom: "refusal 25 is tested after 29",
+    TextForEachPair: "24 asks for as many texts as pairs, whatever their values",
+    OnlyTypedTextsWhole: "24 looks only at the texts that go out",
+    LastTextMayLack: "24 takes a table that ends before the last text",
+    LastTextMayBeCut: "24 takes a text whose labels are cut short",
+    TableEndsWithTexts: "24 is given for a table that goes on after the last text",
+    TableLabelsChecked: "24 is given for a number in the table that is no scalar",
+    TextLengthInBytes: "the length byte of a text counts bytes",
+    RoomForKept: "29 asks for room for what is kept too",
+    RoomInLabels: "29 compares the labels that go out with the bytes of room",
+    RoomWantsSpareByte: "room of exactly what goes out is refused",
+    RoomFilledBy29: "refusal 29 leaves what fits in the room",
+    StateChangedBy29: "refusal 29 changes the state",
+    TypingClearsRoom: "room past what goes out is cleared",
+    OutgoingBytesCount: "the bytes that go out are counted, not the labels",
+    LabelsOutReversed: "labels go out with their lowest byte first",
+    KeptForgotten: "what was kept is not read",
+    NothingTypedSkipped: "if nothing is typed, nothing is read",
+    FinishLeavesState: "finishing leaves the state as it was",
+    StateNotZeroed: "bytes behind the kept ones are not zeroed",
+    HighCountKeepsNone: "a state that counts more bytes than can be kept keeps none",
+    // Romaji typing: what waits, what goes out.
+    NothingWaits: "typing keeps nothing back",
+    KeyWaitsToo: "a rest that is a key waits, even if no key is longer",
+    KeyNeverWaits: "a rest that is a key goes out, even if a key is longer",
+    HighLabelsNeverGrow: "a rest does not wait for a key with a label above 255",
+    LongestRestPasses: "a rest of one byte less than the limit of a key passes",
+    FinishKeeps: "finishing keeps a rest back",
+    PassedByteKept: "a byte that passes at the end is kept too",
+    ShortestKeyWins: "the shortest key at a place wins",
+    KeyAtEndOfWalk: "no key is found if the text goes on like a longer one",
+    LongestKeyMissed: "a key at the limit is not found",
+    Value0Passes: "a key of value 0 does not match",
+    EmptyTextPasses: "a key whose text has no labels does not match",
+    FirstLabelOnly: "only the first label of a text goes out",
+    NextPlaceByOne: "after a key the place moves by one byte",
+    WalkPassesWhole: "all bytes that begin a key pass at once if no key matches",
+    LowestBytesMatch: "a label above 255 matches the byte that is its lowest",
+    BytesAreSigned: "bytes above 127 are labels with all high bits set",
     // The key list.
     KeyLimit32767: "a count of 32,768 is refused",
     OneLabelTooMany: "a key may have one label more than allowed",

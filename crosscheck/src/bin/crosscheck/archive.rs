@@ -3,9 +3,9 @@
 use crate::call::{number_of_text, Call};
 use crate::functions::{
     lxtr_build, lxtr_check, lxtr_complete, lxtr_exact, lxtr_fault, lxtr_highest, lxtr_longest,
-    lxtr_prefixes, lxtr_probe,
+    lxtr_prefixes, lxtr_probe, lxtr_romaji_finish, lxtr_romaji_type,
 };
-use crate::lent::Lent;
+use crate::lent::{Lent, Parts};
 use std::io::Write;
 use std::path::PathBuf;
 use std::process::{Command, Stdio};
@@ -56,8 +56,7 @@ pub struct Answered {
 
 #[derive(Default)]
 pub struct Archive {
-    first: InputCopy,
-    second: InputCopy,
+    inputs: [InputCopy; 3],
     calls: u64,
 }
 
@@ -67,25 +66,24 @@ impl Archive {
         if let Call::List { input } = call {
             return Answered { answer: list(input, lent), inputs_intact: true };
         }
-        let (first, second) = call.inputs();
-        self.first.hold(first);
-        self.second.hold(second);
+        let inputs = call.inputs();
+        self.inputs.iter_mut().zip(inputs).for_each(|(copy, input)| copy.hold(input));
         call.prepare(lent);
         let answer = self.call(call, lent);
-        let inputs_intact = self.first.is_intact(first) && self.second.is_intact(second);
-        Answered { answer, inputs_intact }
+        let mut copies = self.inputs.iter().zip(inputs);
+        Answered { answer, inputs_intact: copies.all(|(copy, input)| copy.is_intact(input)) }
     }
 
     fn call(&mut self, call: &Call, lent: &mut Lent) -> u64 {
         self.calls += 1;
         let null = self.calls.is_multiple_of(2);
-        let (a_len, b_len) = (self.first.len, self.second.len);
-        let (a, b) = (self.first.pointer(), self.second.pointer());
-        let (bytes, words) = lent.parts();
-        let (bytes_len, words_len) = (bytes.len(), words.len());
-        let (a, b) = (or_null(a, a_len, null), or_null(b, b_len, null));
+        let [(a, a_len), (b, b_len), (c, c_len)] =
+            self.inputs.each_mut().map(|copy| (or_null(copy.pointer(), copy.len, null), copy.len));
+        let Parts { bytes, words, state } = lent.parts();
+        let (bytes_len, words_len, state_len) = (bytes.len(), words.len(), state.len());
         let bytes = or_null(bytes.as_mut_ptr(), bytes_len, null);
         let words = or_null(words.as_mut_ptr(), words_len, null);
+        let state = or_null(state.as_mut_ptr(), state_len, null);
         // SAFETY: each pointer is valid for its length, and no two parts overlap.
         unsafe {
             match call {
@@ -97,6 +95,12 @@ impl Archive {
                 Call::Longest { .. } => lxtr_longest(a, a_len, b, b_len),
                 Call::Prefixes { .. } => lxtr_prefixes(a, a_len, b, b_len, words, words_len),
                 Call::Complete { .. } => lxtr_complete(a, a_len, b, b_len, bytes, bytes_len),
+                Call::Type { .. } => lxtr_romaji_type(
+                    a, a_len, b, b_len, state, state_len, c, c_len, bytes, bytes_len,
+                ),
+                Call::Finish { .. } => {
+                    lxtr_romaji_finish(a, a_len, b, b_len, state, state_len, bytes, bytes_len)
+                }
                 Call::Build { .. } => lxtr_build(a, a_len, words, words_len, bytes, bytes_len),
                 Call::List { .. } => unreachable!("the program is run, not called"),
             }

@@ -1,9 +1,9 @@
 //! One call of a library function or of the listing program, and how the
 //! independent implementation answers it.
 
-use crate::lent::Lent;
+use crate::lent::{Lent, Parts};
 use crosscheck::rules::Rules;
-use crosscheck::{answers, listing};
+use crosscheck::{answers, listing, romaji};
 
 #[derive(Clone, Copy, Debug, PartialEq, Eq)]
 pub enum Function {
@@ -15,12 +15,14 @@ pub enum Function {
     Longest,
     Prefixes,
     Complete,
+    Type,
+    Finish,
     Build,
     List,
 }
 
 impl Function {
-    pub const ALL: [Function; 10] = [
+    pub const ALL: [Function; 12] = [
         Function::Check,
         Function::Fault,
         Function::Highest,
@@ -29,6 +31,8 @@ impl Function {
         Function::Longest,
         Function::Prefixes,
         Function::Complete,
+        Function::Type,
+        Function::Finish,
         Function::Build,
         Function::List,
     ];
@@ -36,7 +40,7 @@ impl Function {
     pub fn name(self) -> &'static str {
         [
             "check", "fault", "highest", "exact", "probe", "longest", "prefixes", "complete",
-            "build", "list",
+            "type", "finish", "build", "list",
         ][self as usize]
     }
 
@@ -46,6 +50,9 @@ impl Function {
             Function::Check | Function::Highest => (1..=12).contains(&number),
             Function::Fault => (9..=12).contains(&number),
             Function::Complete => (1..=14).contains(&number),
+            Function::Type | Function::Finish => {
+                (1..=12).contains(&number) || [24, 25, 29].contains(&number)
+            }
             Function::Build => (15..=23).contains(&number),
             Function::List => (15..=23).contains(&number) && number != 21,
             _ => (1..=8).contains(&number) || number == 13,
@@ -53,7 +60,7 @@ impl Function {
     }
 }
 
-/// A call with its inputs and the sizes of the memory it is lent.
+/// A call with its inputs, the sizes of the memory it is lent, and what a lent state holds.
 #[derive(Clone, Copy)]
 pub enum Call<'a> {
     Check { image: &'a [u8] },
@@ -64,6 +71,8 @@ pub enum Call<'a> {
     Longest { image: &'a [u8], query: &'a [u8] },
     Prefixes { image: &'a [u8], query: &'a [u8], places: usize },
     Complete { image: &'a [u8], prefix: &'a [u8], room: usize },
+    Type { image: &'a [u8], kana: &'a [u8], state: &'a [u8], typed: &'a [u8], room: usize },
+    Finish { image: &'a [u8], kana: &'a [u8], state: &'a [u8], room: usize },
     Build { keys: &'a [u8], work: usize, out: usize },
     List { input: &'a [u8] },
 }
@@ -79,30 +88,40 @@ impl<'a> Call<'a> {
             Call::Longest { .. } => Function::Longest,
             Call::Prefixes { .. } => Function::Prefixes,
             Call::Complete { .. } => Function::Complete,
+            Call::Type { .. } => Function::Type,
+            Call::Finish { .. } => Function::Finish,
             Call::Build { .. } => Function::Build,
             Call::List { .. } => Function::List,
         }
     }
 
-    /// The read-only inputs; the second is empty if there is none.
-    pub fn inputs(&self) -> (&'a [u8], &'a [u8]) {
+    /// The read-only inputs; those that a function does not have are empty.
+    pub fn inputs(&self) -> [&'a [u8]; 3] {
         match *self {
-            Call::Check { image } | Call::Fault { image } | Call::Highest { image } => (image, &[]),
+            Call::Check { image } | Call::Fault { image } | Call::Highest { image } => {
+                [image, &[], &[]]
+            }
             Call::Exact { image, query }
             | Call::Probe { image, query }
-            | Call::Longest { image, query } => (image, query),
-            Call::Prefixes { image, query, .. } => (image, query),
-            Call::Complete { image, prefix, .. } => (image, prefix),
-            Call::Build { keys, .. } => (keys, &[]),
-            Call::List { input } => (input, &[]),
+            | Call::Longest { image, query } => [image, query, &[]],
+            Call::Prefixes { image, query, .. } => [image, query, &[]],
+            Call::Complete { image, prefix, .. } => [image, prefix, &[]],
+            Call::Type { image, kana, typed, .. } => [image, kana, typed],
+            Call::Finish { image, kana, .. } => [image, kana, &[]],
+            Call::Build { keys, .. } => [keys, &[], &[]],
+            Call::List { input } => [input, &[], &[]],
         }
     }
 
-    /// Prepares the bytes and words that this call is lent.
+    /// Prepares the memory that this call is lent.
     pub fn prepare(&self, lent: &mut Lent) {
         match *self {
             Call::Prefixes { places, .. } => lent.prepare(0, places),
             Call::Complete { room, .. } => lent.prepare(room, 0),
+            Call::Type { state, room, .. } | Call::Finish { state, room, .. } => {
+                lent.prepare(room, 0);
+                lent.hold_state(state);
+            }
             Call::Build { work, out, .. } => lent.prepare(out, work),
             _ => lent.prepare(0, 0),
         }
@@ -124,9 +143,15 @@ impl<'a> Call<'a> {
             Call::Complete { image, prefix, .. } => {
                 answers::complete(rules, image, prefix, lent.bytes())
             }
+            Call::Type { image, kana, typed, .. } => {
+                answers::romaji_type(rules, image, kana, typed, typing_memory(lent))
+            }
+            Call::Finish { image, kana, .. } => {
+                answers::romaji_finish(rules, image, kana, typing_memory(lent))
+            }
             Call::Build { keys, .. } => {
-                let (out, work) = lent.parts();
-                answers::build(rules, keys, work, out)
+                let Parts { bytes, words, .. } = lent.parts();
+                answers::build(rules, keys, words, bytes)
             }
             Call::List { input } => {
                 let text = listing::text(rules, input);
@@ -136,19 +161,28 @@ impl<'a> Call<'a> {
         }
     }
 
-    /// The front of the inputs in hexadecimal, and the lent sizes.
+    /// The front of the inputs in hexadecimal, the lent sizes, and the state.
     pub fn describe(&self) -> String {
-        let (first, second) = self.inputs();
+        let inputs = self.inputs().map(short).join(" and ");
         let sizes = match *self {
             Call::Prefixes { places, .. } => format!(", {places} words of places"),
             Call::Complete { room, .. } => format!(", {room} bytes of room"),
+            Call::Type { state, room, .. } | Call::Finish { state, room, .. } => {
+                format!(", state {}, {room} bytes of room", short(state))
+            }
             Call::Build { work, out, .. } => {
                 format!(", {work} words of work, {out} bytes of output")
             }
             _ => String::new(),
         };
-        format!("{} and {}{sizes}", short(first), short(second))
+        format!("{inputs}{sizes}")
     }
+}
+
+/// The memory lent for typing and finishing.
+fn typing_memory(lent: &mut Lent) -> romaji::Lent<'_> {
+    let Parts { bytes: room, state, .. } = lent.parts();
+    romaji::Lent { state, room }
 }
 
 /// The refusal in a program's text, in the form of the other answers.

@@ -3,7 +3,7 @@
 
 use crate::archive::{Answered, Archive};
 use crate::call::{Call, Function};
-use crate::lent::Lent;
+use crate::lent::{Lent, Parts};
 use crosscheck::answers::value_number;
 use crosscheck::common::query_of;
 use crosscheck::image::Image;
@@ -11,8 +11,10 @@ use crosscheck::oracle::{self, Pair};
 use crosscheck::rules::{Rules, Wrong};
 
 const SHOWN_DIFFERENCES: u64 = 10;
+/// One more than the highest number of a refusal.
+const REFUSALS: usize = 30;
 
-/// A wrong variant, and the comparison that distinguished it from document 01.
+/// A wrong variant, and the comparison that distinguished it from the documents.
 struct Variant {
     wrong: Wrong,
     noticed: Option<(u64, Function)>,
@@ -29,7 +31,7 @@ pub struct Comparison {
     /// Requirements beyond the comparisons that did not hold.
     unmet: u64,
     /// How often each function gave each refusal, 0 for none.
-    seen: [[u64; 24]; Function::ALL.len()],
+    seen: [[u64; REFUSALS]; Function::ALL.len()],
     /// How often a fault lay in each part of rule 11, 0 for other rules.
     list_faults: [u64; 8],
     variants: Vec<Variant>,
@@ -55,7 +57,7 @@ impl Comparison {
             compared: 0,
             different: 0,
             unmet: 0,
-            seen: [[0; 24]; Function::ALL.len()],
+            seen: [[0; REFUSALS]; Function::ALL.len()],
             list_faults: [0; 8],
             variants: Wrong::ALL.iter().map(variant).collect(),
             oracle: OracleScore::default(),
@@ -76,6 +78,12 @@ impl Comparison {
             self.try_variants(&call, answered.answer);
         }
         answered.answer
+    }
+
+    /// What the archive left in the state and the room of the last call.
+    pub fn left(&mut self) -> (Vec<u8>, Vec<u8>) {
+        let Parts { bytes, state, .. } = self.real.parts();
+        (state.to_vec(), bytes.to_vec())
     }
 
     /// Counts a comparison and shows it if it failed. Returns whether everything was the same.
@@ -205,7 +213,8 @@ impl Comparison {
         let names: String =
             Function::ALL.iter().map(|function| format!("{:>9}", function.name())).collect();
         println!("   {names}");
-        for number in 0..24 {
+        let given = |number: &usize| Function::ALL.iter().any(|it| it.can_refuse(*number));
+        for number in (0..REFUSALS).filter(|number| *number == 0 || given(number)) {
             let cell = |function: &Function| match self.seen[*function as usize][number] {
                 0 if number > 0 && !function.can_refuse(number) => format!("{:>9}", "-"),
                 count => format!("{count:>9}"),
@@ -223,7 +232,7 @@ impl Comparison {
             never += 1;
         }
         for function in Function::ALL {
-            for number in (1..24).filter(|number| function.can_refuse(*number)) {
+            for number in (1..REFUSALS).filter(|number| function.can_refuse(*number)) {
                 if self.seen[function as usize][number] == 0 {
                     println!("NEVER SEEN: refusal {number} from {}", function.name());
                     never += 1;

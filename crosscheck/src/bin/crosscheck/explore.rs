@@ -3,6 +3,7 @@
 use crate::call::Call;
 use crate::comparison::Comparison;
 use crate::queries::any_query;
+use crate::tables::{any_texts, kana_of, state_of};
 use crosscheck::answers::PLACE_WORDS;
 use crosscheck::common::{query_of, KEY_LABELS};
 use crosscheck::image::Image;
@@ -34,6 +35,19 @@ pub fn any_places(random: &mut Random) -> usize {
         1 => random.below(8),
         _ => PLACE_WORDS,
     }
+}
+
+/// Types or finishes a few letters over an image of any kind, with a small kana table and room.
+pub fn any_typing(comparison: &mut Comparison, random: &mut Random, image: &[u8]) {
+    let rows = random.below(8);
+    let kana = &kana_of(&any_texts(random, rows))[..];
+    let text: Vec<u8> = (0..random.below(7)).map(|_| random.pick(b"aabcdn")).collect();
+    let (kept, typed) = text.split_at(random.below(text.len() + 1));
+    let (state, room) = (&state_of(kept)[..], random.pick(&[0, 3, 4, 20, 80]));
+    match random.below(2) {
+        0 => comparison.call(Call::Type { image, kana, state, typed, room }),
+        _ => comparison.call(Call::Finish { image, kana, state, room }),
+    };
 }
 
 /// Compares all functions over a small or medium-sized image of `keys`.

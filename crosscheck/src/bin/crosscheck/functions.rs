@@ -41,6 +41,28 @@ extern "C" {
         room: *mut u8,
         room_len: usize,
     ) -> u64;
+    pub fn lxtr_romaji_type(
+        image: *const u8,
+        image_len: usize,
+        kana: *const u8,
+        kana_len: usize,
+        state: *mut u8,
+        state_len: usize,
+        typed: *const u8,
+        typed_len: usize,
+        room: *mut u8,
+        room_len: usize,
+    ) -> u64;
+    pub fn lxtr_romaji_finish(
+        image: *const u8,
+        image_len: usize,
+        kana: *const u8,
+        kana_len: usize,
+        state: *mut u8,
+        state_len: usize,
+        room: *mut u8,
+        room_len: usize,
+    ) -> u64;
     pub fn lxtr_build(
         keys: *const u8,
         keys_len: usize,

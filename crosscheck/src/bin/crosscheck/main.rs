@@ -4,9 +4,9 @@
 //! program, and the independent answer to it: the 64-bit number, every byte and
 //! word of lent memory with guard zones around it, or the program's text. Besides
 //! that, the check, the highest value and the completion of the empty prefix are
-//! compared with the set oracle, and wrong variants of the independent
-//! implementation take part in the same comparisons: each must be noticed by a
-//! difference.
+//! compared with the set oracle, typing in parts is compared with typing at once,
+//! and wrong variants of the independent implementation take part in the same
+//! comparisons: each must be noticed by a difference.
 //!
 //! Run with `cargo run --release --offline`, in this package's folder, after the
 //! archive `../target/staticlib/liblxtr_c.a` and the listing program
@@ -25,10 +25,14 @@ mod lent;
 mod placer;
 mod queries;
 mod stages;
+mod tables;
 
 use comparison::Comparison;
 use crosscheck::random::Random;
-use stages::{bad_lists, damaged, edges, examples, large, lists, placed, program, tiny, wild};
+use stages::{
+    bad_lists, damaged, edges, examples, large, lists, placed, program, states, tiny, typing,
+    typing_examples, wild,
+};
 use std::process::ExitCode;
 use std::time::Instant;
 
@@ -50,6 +54,8 @@ fn main() -> ExitCode {
         println!("{name:<16} {compared:>8} comparisons {seconds:>6.1} s");
     };
     stage("examples", &|comparison, _| examples::run(comparison));
+    stage("typing examples", &|comparison, _| typing_examples::run(comparison));
+    stage("any states", &|comparison, random| states::run(comparison, random, amount));
     stage("all small ones", &|comparison, _| tiny::run(comparison));
     stage("malformed lists", &|comparison, random| bad_lists::run(comparison, random, amount));
     stage("wild images", &|comparison, random| wild::run(comparison, random, amount));
@@ -57,6 +63,7 @@ fn main() -> ExitCode {
     stage("placed images", &|comparison, random| placed::run(comparison, random, amount));
     stage("key lists", &|comparison, random| lists::run(comparison, random, amount));
     stage("limits", &edges::run);
+    stage("typing", &|comparison, random| typing::run(comparison, random, amount));
     stage("large lists", &large::run);
     stage("program", &|comparison, random| program::run(comparison, random, amount));
     let (passed, failed) = comparison.report();

@@ -1,10 +1,10 @@
-//! Damaged images, checked, walked and listed.
+//! Damaged images, checked, walked, listed and typed with.
 
 use super::placed::any_placed;
 use crate::call::Call;
 use crate::comparison::Comparison;
 use crate::damage::damaged;
-use crate::explore::any_search;
+use crate::explore::{any_search, any_typing};
 use crate::queries::any_query;
 use crosscheck::builder::image_of;
 use crosscheck::common::query_of;
@@ -35,4 +35,5 @@ fn one(comparison: &mut Comparison, random: &mut Random, image: &Image, keys: &[
     let prefix = random.pick(&[&query[..], &[], &first_label]);
     let room = random.pick(&[0, 4, 5, 14, 40, 3_000]);
     comparison.call(Call::Complete { image: &bytes, prefix, room });
+    any_typing(comparison, random, &bytes);
 }

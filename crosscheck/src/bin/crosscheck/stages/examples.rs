@@ -11,14 +11,15 @@ use crosscheck::keylist::{to_bytes, Key};
 use crosscheck::rules::Rules;
 
 pub fn run(comparison: &mut Comparison) {
-    let n_na: Vec<Key> = vec![vec![0x6E], vec![0x6E, 0x61]];
-    let lists =
-        [vec![], vec![vec![]], n_na.clone(), vec![vec![0x61], vec![0x62], vec![0x62, 0x62]]];
+    let lists = [vec![], vec![vec![]], n_na(), vec![vec![0x61], vec![0x62], vec![0x62, 0x62]]];
     for keys in &lists {
         example(comparison, keys);
     }
-    let p3 = built(&n_na);
-    changed_examples(comparison, &p3);
+    changed_examples(comparison);
+}
+
+fn n_na() -> Vec<Key> {
+    vec![vec![0x6E], vec![0x6E, 0x61]]
 }
 
 fn built(keys: &[Key]) -> Image {
@@ -46,9 +47,9 @@ fn example(comparison: &mut Comparison, keys: &[Key]) {
     }
 }
 
-/// P7 to P10.
-fn changed_examples(comparison: &mut Comparison, p3: &Image) {
-    let mut images = vec![p3.clone(); 5];
+/// P7 to P10: refusals 11, 10, 10, 9 and 12.
+pub fn changed() -> Vec<Image> {
+    let mut images = vec![built(&n_na()); 5];
     images[0].lists.children = vec![3, 4, 4, 2];
     images[1].nodes[3].check = 1;
     images[2].nodes[5].base = 7;
@@ -58,7 +59,11 @@ fn changed_examples(comparison: &mut Comparison, p3: &Image) {
         lists: Lists { offsets: vec![0, 0, 0, 1, 2], children: vec![3, 2] },
         map: CodeMap::new(Rules::DOCUMENT, vec![0x61]),
     };
-    for image in images.iter().map(Image::to_bytes) {
+    images
+}
+
+fn changed_examples(comparison: &mut Comparison) {
+    for image in changed().iter().map(Image::to_bytes) {
         comparison.image(&image);
         for room in [0, 4, 5, 100] {
             comparison.call(Call::Complete { image: &image, prefix: &[], room });

@@ -8,5 +8,8 @@ pub mod large;
 pub mod lists;
 pub mod placed;
 pub mod program;
+pub mod states;
 pub mod tiny;
+pub mod typing;
+pub mod typing_examples;
 pub mod wild;

@@ -4,7 +4,7 @@
 
 use crate::call::Call;
 use crate::comparison::Comparison;
-use crate::explore::{any_search, explore, search};
+use crate::explore::{any_search, any_typing, explore, search};
 use crate::keysets;
 use crate::placer::{add_ring, any_code_order, place, rehang, with_values, Pairs};
 use crate::queries::any_query;
@@ -103,11 +103,12 @@ fn rehung(comparison: &mut Comparison, random: &mut Random) {
     look_at(comparison, random, &image, &keys);
 }
 
-/// Checks an image of any kind, and walks and lists it once.
+/// Checks an image of any kind, and walks it, lists it and types with it once.
 fn look_at(comparison: &mut Comparison, random: &mut Random, image: &Image, keys: &[Key]) {
     let (bytes, query) = (image.to_bytes(), any_query(random, image, keys));
     comparison.image(&bytes);
     any_search(comparison, random, &bytes, &query);
     let room = random.pick(&[3, 5, 60, 2_000]);
     comparison.call(Call::Complete { image: &bytes, prefix: &query, room });
+    any_typing(comparison, random, &bytes);
 }

@@ -5,6 +5,7 @@ use crate::call::Call;
 use crate::comparison::Comparison;
 use crate::explore::{complete_at_every_size, search};
 use crate::keysets::all_strings;
+use crate::tables::{kana_of, state_of};
 use crosscheck::answers::PLACE_WORDS;
 use crosscheck::builder::image_of;
 use crosscheck::common::query_of;
@@ -34,6 +35,7 @@ fn every_byte_changed(comparison: &mut Comparison, image: &[u8]) {
                 search(comparison, &changed, &query, PLACE_WORDS);
                 comparison.call(Call::Complete { image: &changed, prefix: &query[..4], room: 60 });
                 comparison.call(Call::Complete { image: &changed, prefix: &query[..3], room: 4 });
+                type_na(comparison, &changed);
             }
         }
     }
@@ -59,7 +61,15 @@ fn every_length(comparison: &mut Comparison, image: &[u8]) {
         comparison.image(image);
         search(comparison, image, &query_of(&[0x6E, 0x61]), PLACE_WORDS);
         comparison.call(Call::Complete { image, prefix: &[], room: 60 });
+        type_na(comparison, image);
     }
+}
+
+/// Types an a after an n that was kept, and finishes in its place, with two texts of one label.
+fn type_na(comparison: &mut Comparison, image: &[u8]) {
+    let (kana, state) = (&kana_of(&[vec![0x3093], vec![0x306A]])[..], &state_of(b"n")[..]);
+    comparison.call(Call::Type { image, kana, state, typed: b"a", room: 9 });
+    comparison.call(Call::Finish { image, kana, state, room: 9 });
 }
 
 /// Slots 1 and 2 over a few words, with lists right and wrong.

@@ -4,7 +4,7 @@
 
 use crate::call::Call;
 use crate::comparison::Comparison;
-use crate::explore::{any_places, search};
+use crate::explore::{any_places, any_typing, search};
 use crate::keysets::NO_SCALARS;
 use crate::queries::{any_query, walk};
 use crosscheck::common::{query_of, KEY_LABELS};
@@ -29,6 +29,7 @@ pub fn run(comparison: &mut Comparison, random: &mut Random, amount: usize) {
             search(comparison, &bytes, &query, any_places(random));
         }
         comparison.call(Call::Complete { image: &bytes, prefix: &[], room: random.below(9) });
+        any_typing(comparison, random, &bytes);
     }
 }
 
