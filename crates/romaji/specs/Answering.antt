@@ -7,6 +7,8 @@ use mathlib.Core.Path.{_≡_, refl, sym, ap, _∙_}
 use mathlib.Core.Logic.{_≢_}
 use mathlib.Core.Bool.{Bool, true, false, not}
 use mathlib.Core.List.{List, [], _++_}
+use mathlib.Core.Option.{Option}
+use lib.Seq.{length-take-le}
 use lib.ListN.{length, take, drop, length-append, length-drop}
 use lib.Dec.{leb}
 use borrow.Author.Tests.{leb-true, leb-false, lt-ltb, le-ltb}
@@ -19,7 +21,7 @@ use Rattle.lxtr_spec.specs.declared.Found.the-variants.{Is, Nothing}
 use Rattle.lxtr_spec.specs.declared.Exact.{Exact}
 use Rattle.lxtr_spec.specs.declared.Highest.{Highest}
 use Rattle.lxtr_laws.specs.Tests.{not-is-true, not-is-false}
-use Rattle.lxtr_laws.specs.RefusalChains.{refused-by, goes-on-by, none-first, none-refused, first-stands, stands}
+use Rattle.lxtr_laws.specs.RefusalChains.{none-first, none-refused, first-stands, stands}
 use Rattle.lxtr_laws.specs.ByteOrders.{big, words-size}
 use Rattle.lxtr_laws.specs.Overlays.{over}
 use Rattle.romaji_spec.specs.KanaTables.{tableShort}
@@ -27,7 +29,7 @@ use Rattle.romaji_spec.specs.Pieces.{maxKept, cut}
 use Rattle.romaji_spec.specs.Typing.{keptIn, stateOf, isValue, hasEmptyKey, tableRefusal, roomRefusal, TypingAnswer, refusedBy, wentOut, answered, convert}
 use Rattle.romaji_spec.specs.declared.State.{State}
 use Rattle.romaji_laws.specs.Steps.{rest-few}
-use Rattle.romaji.specs.Tables.{take-least}
+use Rattle.romaji.specs.Tables.{take-least, mostPlaces, textPlaces, Indexed}
 use Rattle.romaji.specs.Progress.{outOf}
 use Rattle.romaji.specs.Writing.{Converts}
 
@@ -43,27 +45,31 @@ module _ (b : List ℕ) (e : Exact) (known : exactMeans e ≡ exactOf b []) wher
   unfolding hasEmptyKey isValue
   empty-missing h = rw (← known, h)
 
+-- 24 and 25, for the highest value o
+abbrev pub laterRefusal : List ℕ → List ℕ → Option ℕ → ℕ
+laterRefusal b kana o = refuseIf (tableShort kana o) 24 (refuseIf (hasEmptyKey b) 25 0)
+
+-- what was tested: k is the refusal; without one, places are those of the table
+pub record Passes (b kana : List ℕ) (k : ℕ) (places : List ℕ) : Type 0 where
+  pub refusal : k ≡ tableRefusal b kana
+  pub places-kept : k ≡ 0 → Indexed kana places
+
 -- h is what `highest` answered
 module _ (b kana : List ℕ) (h : Highest) (known : highestMeans h ≡ highestOf b) where
-  pub image-refused : h .refusal ≢ 0 → h .refusal ≡ tableRefusal b kana
+  pub image-refused : (places : List ℕ) → h .refusal ≢ 0 → Passes b kana (h .refusal) places
   unfolding tableRefusal
-  image-refused r = rw (← known) (sym (first-stands (h .refusal) (refuseIf (tableShort kana (found (h .value))) 24 (refuseIf (hasEmptyKey b) 25 0)) r))
+  image-refused places r = record {
+    refusal = rw (← known) (sym (first-stands (h .refusal) (laterRefusal b kana (found (h .value))) r));
+    places-kept = λ z. absurd (r z);
+  }
 
-  module _ (fine : h .refusal ≡ 0) (short : Bool) (tested : short ≡ tableShort kana (found (h .value))) where
-    pub short-refused : short ≡ true → 24 ≡ tableRefusal b kana
+  module _ (n : ℕ) (few : (1 ≤ n) × (n ≤ mostPlaces)) (places : List ℕ) (put : take n places ≡ textPlaces kana n) (room : n ≤ length places) where
+    pub indexed : Indexed kana (take n places)
+    indexed = let l = length-take-le n places room in record { some = rw l (few .0); are = put ∙ ap (textPlaces kana) (sym l) }
+
+    pub later-tested : (k : ℕ) → h .refusal ≡ 0 → k ≡ laterRefusal b kana (found (h .value)) → Passes b kana k (take n places)
     unfolding tableRefusal firstRefusal
-    short-refused t = rw (← known, fine) (refused-by short (tableShort kana (found (h .value))) 24 (refuseIf (hasEmptyKey b) 25 0) tested t)
-
-    module _ (enough : short ≡ false) (empty : Bool) (looked : empty ≡ hasEmptyKey b) where
-      long-enough : (k : ℕ) → k ≡ refuseIf (hasEmptyKey b) 25 0 → k ≡ tableRefusal b kana
-      unfolding tableRefusal firstRefusal
-      long-enough k e = rw (← known, fine) (goes-on-by short (tableShort kana (found (h .value))) 24 (refuseIf (hasEmptyKey b) 25 0) k tested enough e)
-
-      pub empty-refused : empty ≡ true → 25 ≡ tableRefusal b kana
-      empty-refused t = long-enough 25 (refused-by empty (hasEmptyKey b) 25 0 looked t)
-
-      pub table-passes : empty ≡ false → 0 ≡ tableRefusal b kana
-      table-passes t = long-enough 0 (goes-on-by empty (hasEmptyKey b) 25 0 0 looked t refl)
+    later-tested k fine e = record { refusal = rw (← known, fine) e; places-kept = λ z. indexed }
 
 -- ---- the answer for a text
 
@@ -100,12 +106,18 @@ module _ (keeping : Bool) (b kana : List ℕ) (s : State) (kept typed room : Lis
 
 -- ---- the answer for a state
 
-module _ (keeping : Bool) (b kana : List ℕ) (s : State) (typed room : List ℕ) (k : ℕ) (known : k ≡ tableRefusal b kana) where
+module _ (keeping : Bool) (b kana : List ℕ) (s : State) (typed room : List ℕ) (k : ℕ) (places : List ℕ) (tested : Passes b kana k places) where
+  known : k ≡ tableRefusal b kana
+  known = tested .refusal
+
   pub convert-refused : k ≢ 0 → _≡_ {A = TypingAnswer} (record { answer = record { refusal = k; count = 0; state = s }; room = room }) (convert keeping b kana s typed room)
   unfolding convert refusedBy
   convert-refused h = rw (← known) (sym (stands k (answered kana s room (cut keeping b (keptIn s ++ typed))) (refusedBy k s room) h))
 
   module _ (fine : k ≡ 0) where
+    pub table-kept : Indexed kana places
+    table-kept = tested .places-kept fine
+
     pub no-empty-key : hasEmptyKey b ≡ false
     unfolding tableRefusal
     no-empty-key =

@@ -9,15 +9,21 @@ ghost use mathlib.Core.Path.{_≡_};
 ghost use mathlib.Core.List.{[], _++_};
 ghost use mathlib.Core.Bool.{false};
 ghost use Prim.Native.Nat.{_*_, _≤_};
-ghost use lib.ListN.{length};
+ghost use lib.ListN.{length, take};
 ghost use lib.Dec.{leb};
+ghost use Rattle.lxtr_spec.specs.Answers.{found};
 ghost use Rattle.romaji_spec.specs.Pieces.{cut};
-ghost use Rattle.romaji_spec.specs.Typing.{hasEmptyKey, tableRefusal, answered, convert, typeOf, finishOf};
+ghost use Rattle.romaji_spec.specs.Typing.{hasEmptyKey, answered, convert, typeOf, finishOf};
+ghost use Rattle.romaji.specs.Tables.{mostPlaces, Indexed};
 ghost use Rattle.romaji.specs.Progress.{outOf};
+ghost use Rattle.romaji.specs.Answering.{laterRefusal, Passes};
 ghost use Rattle.romaji.specs.Writing.{Converts};
 use crate::pieces::next_piece;
 use crate::pieces::out_count;
 use crate::pieces::put_piece;
+use crate::tables::INDEXED;
+use crate::tables::place_count;
+use crate::tables::put_places;
 use crate::tables::table_short;
 use crate::texts::kept_count;
 use crate::texts::rest_kept;
@@ -44,16 +50,18 @@ fn has_empty_key(image: &[u8]) -> bool
     }
 }
 
-// The first of refusals 1 to 12, 24 and 25 that holds, or 0.
-fn table_refusal(image: &[u8], kana: &[u8]) -> u8
-    ensures { λ r. ⌜ r ≡ tableRefusal (now (image .entry)) (now (kana .entry)) ⌝ }
+// The first of refusals 1 to 12, 24 and 25 that holds, or 0; and how many places of texts are kept.
+struct Tested {
+    refusal: u8,
+    count: usize,
+}
+
+// The first of refusals 24 and 25 that holds, or 0, for an image with this highest value.
+fn later_refusal(image: &[u8], kana: &[u8], places: &[usize], highest: Found) -> u8
+    requires { ⌜ Indexed (now kana) (now places) ⌝ }
+    ensures { λ r. ⌜ r ≡ laterRefusal (now (image .entry)) (now (kana .entry)) (found highest) ⌝ }
 {
-    let top = highest(image);
-    if top.refusal != 0 {
-        return top.refusal;
-    }
-    let value = top.value;
-    if table_short(kana, value) {
+    if table_short(kana, places, highest) {
         return TABLE_TOO_SHORT;
     }
     if has_empty_key(image) {
@@ -62,9 +70,40 @@ fn table_refusal(image: &[u8], kana: &[u8]) -> u8
     0
 }
 
+// Tests image and table, and keeps the places of the table's texts.
+fn test_table(image: &[u8], kana: &[u8], places: &mut [usize]) -> Tested
+    requires { ⌜ length (now places) ≡ mostPlaces ⌝ }
+    ensures { λ r. ⌜ Passes (now (image .entry)) (now (kana .entry)) (r .refusal) (take (r .count) (now (places .exit))) ⌝ }
+    ensures { λ r. ⌜ r .count ≤ length (now (places .exit)) ⌝ }
+{
+    let top = highest(image);
+    if top.refusal != 0 {
+        return Tested {
+            refusal: top.refusal,
+            count: 0,
+        };
+    }
+    let value = top.value;
+    let count = place_count(value);
+    put_places(kana, count, places);
+    Tested {
+        refusal: later_refusal(image, kana, &places[..count], value),
+        count,
+    }
+}
+
 // Whether at most `room` labels go out for the text.
-fn fits(image: &[u8], kana: &[u8], kept: &[u8], typed: &[u8], keeping: bool, room: usize) -> bool
+fn fits(
+    image: &[u8],
+    kana: &[u8],
+    places: &[usize],
+    kept: &[u8],
+    typed: &[u8],
+    keeping: bool,
+    room: usize,
+) -> bool
     requires { ⌜ hasEmptyKey (now image) ≡ false ⌝ }
+    requires { ⌜ Indexed (now kana) (now places) ⌝ }
     ensures { λ r. ⌜ r ≡ leb (length (outOf keeping (now (image .entry)) (now (kana .entry)) (now (kept .entry) ++ now (typed .entry)))) room ⌝ }
 {
     let length = text_length(kept, typed);
@@ -76,7 +115,7 @@ fn fits(image: &[u8], kana: &[u8], kept: &[u8], typed: &[u8], keeping: bool, roo
             break;
         }
         let value = next.value;
-        let count = out_count(kana, value);
+        let count = out_count(kana, places, value);
         if left < count {
             return false;
         }
@@ -96,12 +135,14 @@ struct Converted {
 fn put_pieces(
     image: &[u8],
     kana: &[u8],
+    places: &[usize],
     kept: &[u8],
     typed: &[u8],
     keeping: bool,
     room: &mut [u8],
 ) -> Converted
     requires { ⌜ hasEmptyKey (now image) ≡ false ⌝ }
+    requires { ⌜ Indexed (now kana) (now places) ⌝ }
     requires { ⌜ 4 * length (outOf keeping (now image) (now kana) (now kept ++ now typed)) ≤ length (now room) ⌝ }
     ensures { λ r. ⌜ Converts keeping (now (image .entry)) (now (kana .entry)) (now (kept .entry) ++ now (typed .entry)) (now (room .entry)) (r .at) (r .count) (now (room .exit)) ⌝ }
 {
@@ -114,7 +155,7 @@ fn put_pieces(
             break;
         }
         let value = next.value;
-        count = put_piece(kana, value, kept, typed, at, room, count);
+        count = put_piece(kana, places, value, kept, typed, at, room, count);
         at += next.length;
     }
     Converted { at, count }
@@ -124,6 +165,7 @@ fn put_pieces(
 fn convert_text(
     image: &[u8],
     kana: &[u8],
+    places: &[usize],
     state: State,
     kept: &[u8],
     typed: &[u8],
@@ -131,16 +173,17 @@ fn convert_text(
     keeping: bool,
 ) -> Typed
     requires { ⌜ hasEmptyKey (now image) ≡ false ⌝ }
+    requires { ⌜ Indexed (now kana) (now places) ⌝ }
     ensures { λ r. ⌜ record { answer = r; room = now (room .exit) } ≡ answered (now (kana .entry)) state (now (room .entry)) (cut keeping (now (image .entry)) (now (kept .entry) ++ now (typed .entry))) ⌝ }
 {
-    if !fits(image, kana, kept, typed, keeping, room.len() / 4) {
+    if !fits(image, kana, places, kept, typed, keeping, room.len() / 4) {
         return Typed {
             refusal: NO_ROOM,
             count: 0,
             state,
         };
     }
-    let done = put_pieces(image, kana, kept, typed, keeping, room);
+    let done = put_pieces(image, kana, places, kept, typed, keeping, room);
     Typed {
         refusal: 0,
         count: done.count,
@@ -159,17 +202,28 @@ fn convert(
 ) -> Typed
     ensures { λ r. ⌜ record { answer = r; room = now (room .exit) } ≡ convert keeping (now (image .entry)) (now (kana .entry)) state (now (typed .entry)) (now (room .entry)) ⌝ }
 {
-    let refusal = table_refusal(image, kana);
-    if refusal != 0 {
+    let mut places = [0usize; INDEXED];
+    let table = test_table(image, kana, &mut places);
+    if table.refusal != 0 {
         return Typed {
-            refusal,
+            refusal: table.refusal,
             count: 0,
             state,
         };
     }
+    let texts = table.count;
     let bytes = state.kept;
     let count = kept_count(state.count, MAX_KEPT);
-    convert_text(image, kana, state, &bytes[..count], typed, room, keeping)
+    convert_text(
+        image,
+        kana,
+        &places[..texts],
+        state,
+        &bytes[..count],
+        typed,
+        room,
+        keeping,
+    )
 }
 
 // Types bytes: the kana of what is kept and typed goes out, from the room's front. A rest that could still grow is kept.

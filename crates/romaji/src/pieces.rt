@@ -10,6 +10,7 @@ ghost use Rattle.lxtr_spec.specs.Searches.{probeOf};
 ghost use Rattle.lxtr_spec.specs.Answers.{found};
 ghost use Rattle.lxtr_laws.specs.Overlays.{over};
 ghost use Rattle.romaji_spec.specs.Typing.{hasEmptyKey};
+ghost use Rattle.romaji.specs.Tables.{Indexed};
 ghost use Rattle.romaji.specs.NextPieces.{Looked, FrontIs, NextIs, outBy};
 use crate::tables::text_bytes;
 use crate::texts::put_label;
@@ -96,11 +97,12 @@ pub fn next_piece(image: &[u8], kept: &[u8], typed: &[u8], at: usize, keeping: b
 }
 
 // How many labels go out for a piece: for the text of a value, or for a byte that passes.
-pub fn out_count(kana: &[u8], value: Found) -> usize
+pub fn out_count(kana: &[u8], places: &[usize], value: Found) -> usize
+    requires { ⌜ Indexed (now kana) (now places) ⌝ }
     ensures { λ r. ⌜ r ≡ length (outBy (now (kana .entry)) 0 (found value)) ⌝ }
 {
     match value {
-        Found::Is(v) => label_count(text_bytes(kana, v)),
+        Found::Is(v) => label_count(text_bytes(kana, places, v)),
         Found::Nothing => 1,
     }
 }
@@ -122,6 +124,7 @@ fn put_text(text: &[u8], room: &mut [u8], at: usize)
 // value, or the byte there. Returns the number of labels with them.
 pub fn put_piece(
     kana: &[u8],
+    places: &[usize],
     value: Found,
     kept: &[u8],
     typed: &[u8],
@@ -129,6 +132,7 @@ pub fn put_piece(
     room: &mut [u8],
     count: usize,
 ) -> usize
+    requires { ⌜ Indexed (now kana) (now places) ⌝ }
     requires { ⌜ at < length (now kept) + length (now typed) ⌝ }
     requires { ⌜ 4 * (count + length (outBy (now kana) (getD (now kept ++ now typed) at 0) (found value))) ≤ length (now room) ⌝ }
     ensures { λ r. ⌜ r ≡ count + length (outBy (now (kana .entry)) (getD (now (kept .entry) ++ now (typed .entry)) at 0) (found value)) ⌝ }
@@ -138,7 +142,7 @@ pub fn put_piece(
         put_label(kept, typed, at, room, count);
         return count + 1;
     };
-    let text = text_bytes(kana, v);
+    let text = text_bytes(kana, places, v);
     put_text(text, room, count);
     count + label_count(text)
 }

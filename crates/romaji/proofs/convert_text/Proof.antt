@@ -10,7 +10,7 @@ convert-text-spec =
     (tie.spec
     (λ c κs. search needs)
     (λ c. search text-no-room)
-    (λ c κs. (search needs, search room-enough))
+    (λ c κs. (search needs, (search needs, search room-enough)))
     (λ c κs. (search rest-from, search rest-size))
     (λ c. search needs)
     (λ c. search text-done))

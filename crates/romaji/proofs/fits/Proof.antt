@@ -7,10 +7,10 @@ use Rattle.romaji.proofs.fits.Statement.{statement}
 use Rattle.romaji.proofs.fits.Tie as tie
 
 abbrev Inv-loop : tie.InvT-loop
-Inv-loop image kana kept typed keeping room length left₀ at₀ left at = Counted keeping image kana kept typed room length at left
+Inv-loop image kana places kept typed keeping room length left₀ at₀ left at = Counted keeping image kana kept typed room length at left
 
 abbrev μ-loop : tie.MeasureT-loop
-μ-loop image kana kept typed keeping room length left₀ at₀ left at = length - at
+μ-loop image kana places kept typed keeping room length left₀ at₀ left at = length - at
 
 pub fits-spec : {M : Type 1} → statement M
 fits-spec =

@@ -7,10 +7,10 @@ use Rattle.romaji.proofs.put_pieces.Statement.{statement}
 use Rattle.romaji.proofs.put_pieces.Tie as tie
 
 abbrev Inv-loop : tie.InvT-loop
-Inv-loop image kana kept typed keeping room₀ length at₀ count₀ room at count = Wrote keeping image kana kept typed room₀ length at count room
+Inv-loop image kana places kept typed keeping room₀ length at₀ count₀ room at count = Wrote keeping image kana kept typed room₀ length at count room
 
 abbrev μ-loop : tie.MeasureT-loop
-μ-loop image kana kept typed keeping room₀ length at₀ count₀ room at count = length - at
+μ-loop image kana places kept typed keeping room₀ length at₀ count₀ room at count = length - at
 
 -- the points of the code that facts are taken from: after the piece is found, and the loop
 abbrev piece : tie.Then1 Inv-loop μ-loop → tie.After-next-piece Inv-loop μ-loop
@@ -28,7 +28,7 @@ put-pieces-spec =
     (λ c κs. search needs)
     (λ c. search write-start)
     (λ c κs. (search needs, search write-here))
-    (λ c κs. (search write-here, search write-room))
+    (λ c κs. (search needs, (search write-here, search write-room)))
     (λ c. search (write-fits, needs))
     (λ c. search write-less)
     (λ c. search write-next)
