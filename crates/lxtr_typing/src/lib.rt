@@ -21,8 +21,8 @@ use lxtr_text::LINE_ROOM;
 use romaji_spec::MAX_KEPT;
 use romaji_spec::State;
 
-// Room for what goes out. It is lent as an array, so that no proof has to count its elements.
-const OUT_ROOM: usize = 2097152;
+// Room for what goes out: 131,072 labels. It is lent as an array, so that no proof has to count its elements.
+const OUT_ROOM: usize = 524288;
 
 // How many bytes of labels are printed at a time: those of as many labels as fit a line.
 const PART_BYTES: usize = 4 * MAX_LABELS;
