@@ -21,7 +21,8 @@ use lxtr_text::LINE_ROOM;
 use romaji_spec::MAX_KEPT;
 use romaji_spec::State;
 
-// Room for what goes out: 131,072 labels. It is lent as an array, so that no proof has to count its elements.
+// Room for what goes out: 131,072 labels. With the kana table it takes no more of the stack than what the command build lends. It is
+// lent as an array, so that no proof has to count its elements.
 const OUT_ROOM: usize = 524288;
 
 // How many bytes of labels are printed at a time: those of as many labels as fit a line.
@@ -113,7 +114,7 @@ fn print_kept(state: State) {
     print_waiting(&bytes, state.count as usize, &mut room);
 }
 
-// Finishes, and prints what goes out.
+// Finishes, and prints what goes out. There is always room for what was kept; a refusal would be printed all the same.
 fn finish_in(image: &[u8], kana: &[u8], state: State, room: &mut [u8; OUT_ROOM]) {
     let answer = romaji::finish(image, kana, state, room);
     if answer.refusal != 0 {
