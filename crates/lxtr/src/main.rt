@@ -1,4 +1,4 @@
-// The inspector's command: checks, searches, lists, draws and builds LXTR images in files. It calls the proved operations and
+// The inspector's command: checks, searches, lists, draws and builds LXTR images in files, and types with them. It calls the proved operations and
 // prints their answers. The last line is one word, for scripts.
 mod makers; // build, keys
 mod draw; // draw
@@ -26,6 +26,7 @@ use lxtr_messages::OTHER_OPERANDS;
 use lxtr_messages::REFUSED;
 use lxtr_messages::print_usage;
 use lxtr_messages::say;
+use lxtr_typing::type_text;
 use lxtr_utf8::decode;
 
 // Room for the labels of an argument. It has at most 4,096 bytes, and so at most 4,096 labels.
@@ -69,6 +70,28 @@ fn search_word(image: &[u8], asked: Command) {
     search_labels(image, asked, &query, decoded.count);
 }
 
+// Types the text that is the fourth argument.
+fn type_argument(image: &[u8], kana: &[u8]) {
+    let mut text = io::buffer();
+    let length = os::arg(4, &mut text);
+    if os::errno() != 0 {
+        say(LONG_ARGUMENT);
+        say(REFUSED);
+        return;
+    }
+    type_text(image, kana, &text[..length]);
+}
+
+// Types with the kana table in the file that the third argument names.
+fn type_with_table(image: &[u8]) {
+    let mut room = [0u8; FILE_ROOM];
+    let mut is_whole = false;
+    let size = load(3, &mut room, &mut is_whole);
+    if is_whole {
+        type_argument(image, &room[..size]);
+    }
+}
+
 // Runs a command on the contents of the file that its first operand names.
 fn run_on(file: &[u8], asked: Command, operands: usize) {
     match asked {
@@ -76,6 +99,7 @@ fn run_on(file: &[u8], asked: Command, operands: usize) {
         Command::Draw => draw(file),
         Command::Build => build(file),
         Command::Keys => keys(file),
+        Command::TypeText => type_with_table(file),
         Command::Complete => {
             if operands < 2 {
                 complete(file, b"");

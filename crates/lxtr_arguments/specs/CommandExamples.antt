@@ -5,7 +5,7 @@ use mathlib.Core.Path.{_≡_, refl}
 use mathlib.Core.List.{List, [], _∷_}
 use Rattle.lxtr_laws.specs.ExampleTables.{AllHold, _and_}
 use Rattle.lxtr_command_spec.specs.declared.Command.{Command}
-use Rattle.lxtr_command_spec.specs.declared.Command.the-variants.{Check, Exact, Prefixes, Longest, Probe, Complete, Build, Keys, Draw, Help, Unknown, WrongOperands}
+use Rattle.lxtr_command_spec.specs.declared.Command.the-variants.{Check, Exact, Prefixes, Longest, Probe, Complete, Build, Keys, Draw, TypeText, Help, Unknown, WrongOperands}
 use Rattle.lxtr_command_spec.specs.Commands.{asciiFrom, ascii, sameBytes, taking, row, laterRows, commandOf}
 
 pub data Example : Type 0 where
@@ -28,6 +28,7 @@ examples =
     ∷ means "build" 2 Build
     ∷ means "keys" 2 Keys
     ∷ means "draw" 1 Draw
+    ∷ means "type" 3 TypeText
     ∷ means "help" 0 Help
     -- too few operands, and too many
     ∷ means "check" 0 WrongOperands
@@ -39,6 +40,8 @@ examples =
     ∷ means "build" 1 WrongOperands
     ∷ means "keys" 3 WrongOperands
     ∷ means "draw" 0 WrongOperands
+    ∷ means "type" 2 WrongOperands
+    ∷ means "type" 4 WrongOperands
     ∷ means "help" 1 WrongOperands
     -- no name, a shorter one, a longer one, one with a capital letter, and one with a letter changed
     ∷ means "" 0 Unknown
@@ -51,7 +54,7 @@ examples =
 pub command-examples-hold : AllHold Holds examples
 unfolding examples asciiFrom ascii sameBytes taking row laterRows commandOf
 command-examples-hold =
-    refl and refl and refl and refl and refl and refl and refl and refl and refl and refl and refl
-    and refl and refl and refl and refl and refl and refl and refl and refl and refl and refl
+    refl and refl and refl and refl and refl and refl and refl and refl and refl and refl and refl and refl
+    and refl and refl and refl and refl and refl and refl and refl and refl and refl and refl and refl and refl
     and refl and refl and refl and refl and refl
     and tt

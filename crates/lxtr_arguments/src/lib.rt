@@ -45,6 +45,9 @@ fn later_rows(name: &[u8], count: usize) -> Command
     if same_bytes(name, b"draw") {
         return taking(Command::Draw, 1, 1, count);
     }
+    if same_bytes(name, b"type") {
+        return taking(Command::TypeText, 3, 3, count);
+    }
     if same_bytes(name, b"help") {
         return taking(Command::Help, 0, 0, count);
     }

@@ -38,6 +38,7 @@ pub enum Command {
     Build,
     Keys,
     Draw,
+    TypeText,
     Help,
     Unknown, // no such command
     WrongOperands, // more or fewer operands than the command takes

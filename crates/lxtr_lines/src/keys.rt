@@ -12,7 +12,7 @@ use lxtr_text::appending::append_byte;
 use lxtr_text::characters::append_shown;
 use lxtr_text::numerals::append_hexadecimal;
 
-fn append_text(line: &mut [u8], at: usize, labels: &[u8]) -> usize
+pub fn append_text(line: &mut [u8], at: usize, labels: &[u8]) -> usize
     requires { ⌜ at ≤ length (now line) ⌝ }
     ensures { λ r. ⌜ Appended (now (line .entry)) at (shownAll (labelsOf (now (labels .entry)))) (now (line .exit)) r ⌝ }
 {
@@ -51,7 +51,7 @@ pub fn append_labels(line: &mut [u8], at: usize, labels: &[u8], from: usize) -> 
 }
 
 // Appends all labels in hexadecimal, with a space between.
-fn append_spaced(line: &mut [u8], at: usize, labels: &[u8]) -> usize
+pub fn append_spaced(line: &mut [u8], at: usize, labels: &[u8]) -> usize
     requires { ⌜ at ≤ length (now line) ⌝ }
     ensures { λ r. ⌜ Appended (now (line .entry)) at (spaced (labelsOf (now (labels .entry)))) (now (line .exit)) r ⌝ }
 {

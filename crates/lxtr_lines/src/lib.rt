@@ -1,6 +1,6 @@
 // The lines that the programs print, written to the front of a lent line: a word and a number, the pairs of a listing in document
 // 01's form, and keys with their values. The functions are for the programs.
-mod keys; // the labels of a key
+pub mod keys; // the labels of a key
 
 ghost use mathlib.Core.Path.{_≡_};
 ghost use mathlib.Core.Bool.{true};

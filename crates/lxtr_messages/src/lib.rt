@@ -30,49 +30,63 @@ pub const WRITTEN: u8 = 6;
 
 pub const HELP: u8 = 7;
 
-pub const FAILED: u8 = 8;
+pub const TYPED: u8 = 8;
 
-pub const PAIRS: u8 = 9;
+pub const FAILED: u8 = 9;
 
-pub const VALUE: u8 = 10;
+pub const PAIRS: u8 = 10;
 
-pub const NO_VALUE: u8 = 11;
+pub const VALUE: u8 = 11;
 
-pub const LONG_QUERY: u8 = 12;
+pub const NO_VALUE: u8 = 12;
 
-pub const ABSENT_IN_REFUSED: u8 = 13;
+pub const LONG_QUERY: u8 = 13;
 
-pub const ONLY_LONGER: u8 = 14;
+pub const ABSENT_IN_REFUSED: u8 = 14;
 
-pub const NO_KEY: u8 = 15;
+pub const ONLY_LONGER: u8 = 15;
 
-pub const LONGER: u8 = 16;
+pub const NO_KEY: u8 = 16;
 
-pub const NO_LONGER: u8 = 17;
+pub const LONGER: u8 = 17;
 
-pub const MORE_KEYS: u8 = 18;
+pub const NO_LONGER: u8 = 18;
 
-pub const BYTES: u8 = 19;
+pub const MORE_KEYS: u8 = 19;
 
-pub const KEYS: u8 = 20;
+pub const BYTES: u8 = 20;
 
-pub const LINE_NOT_UTF8: u8 = 21;
+pub const KEYS: u8 = 21;
 
-pub const LONG_WORD_LINE: u8 = 22;
+pub const LINE_NOT_UTF8: u8 = 22;
 
-pub const TOO_MANY_WORDS: u8 = 23;
+pub const LONG_WORD_LINE: u8 = 23;
 
-pub const LARGE_LIST: u8 = 24;
+pub const TOO_MANY_WORDS: u8 = 24;
 
-pub const LONG_ARGUMENT: u8 = 25;
+pub const LARGE_LIST: u8 = 25;
 
-pub const ARGUMENT_NOT_UTF8: u8 = 26;
+pub const LONG_ARGUMENT: u8 = 26;
 
-pub const NO_COMMAND: u8 = 27;
+pub const ARGUMENT_NOT_UTF8: u8 = 27;
 
-pub const OTHER_OPERANDS: u8 = 28;
+pub const NO_COMMAND: u8 = 28;
 
-pub const LARGE_FILE: u8 = 29;
+pub const OTHER_OPERANDS: u8 = 29;
+
+pub const LARGE_FILE: u8 = 30;
+
+pub const OUT: u8 = 31;
+
+pub const NOTHING_OUT: u8 = 32;
+
+pub const WAITS: u8 = 33;
+
+pub const NOTHING_WAITS: u8 = 34;
+
+pub const FINISH_OUT: u8 = 35;
+
+pub const NOTHING_AT_FINISH: u8 = 36;
 
 // Prints a sentence. The marks in it stand for the two numbers.
 pub fn tell(sentence: u8, first: u32, second: u32) {
@@ -86,6 +100,7 @@ pub fn tell(sentence: u8, first: u32, second: u32) {
               stopped\n|\
               written\n|\
               help\n|\
+              typed\n|\
               failed\n|\
               pairs %\n|\
               value %\n|\
@@ -107,7 +122,13 @@ pub fn tell(sentence: u8, first: u32, second: u32) {
               the word is not UTF-8\n|\
               there is no such command; lxtr help lists the commands\n|\
               the command takes a different number of operands; see lxtr help\n|\
-              the file has more than % bytes, the size of the largest image\n|",
+              the file has more than % bytes, the size of the largest image\n|\
+              goes out: |\
+              nothing goes out\n|\
+              waits: |\
+              nothing waits\n|\
+              goes out at the finish: |\
+              nothing goes out at the finish\n|",
             sentence,
         ),
         first,
@@ -151,6 +172,7 @@ pub fn print_usage() {
           lxtr build KEYS IMAGE         makes the image of a key list\n\
           lxtr keys TEXT KEYS           makes a key list from a text file, one word per line\n\
           lxtr draw IMAGE               a graph for Graphviz, with the fault in red\n\
+          lxtr type IMAGE KANA TEXT     what goes out when a text is typed, and what waits\n\
           lxtr help                     this text\n",
     );
 }

@@ -1,4 +1,4 @@
-// The sentences of refusals, each at the place of its number in document 01; and the sentences for places at fault.
+// The sentences of refusals, each at the place of its number in documents 01 and 02; and the sentences for places at fault.
 use crate::REFUSED;
 use crate::print_form;
 use crate::printed;
@@ -30,7 +30,7 @@ fn limit_of(refusal: u8) -> u32 {
     }
 }
 
-// Prints the sentence of a refusal, without ending the line.
+// Prints the sentence of a refusal, without ending the line. No operation gives 0 or 26 to 28, so their texts are empty.
 pub fn print_refusal(refusal: u8) {
     print_form(
         text_at(
@@ -57,7 +57,13 @@ pub fn print_refusal(refusal: u8) {
               refusal 20: the keys have more than % different labels|\
               refusal 21: the scratch memory is too small|\
               refusal 22: the keys do not fit into % slots|\
-              refusal 23: there is no room for the image|",
+              refusal 23: there is no room for the image|\
+              refusal 24: the kana table ends before the text of some value of the image is whole|\
+              refusal 25: the image has the empty key, which cannot be typed|\
+              |\
+              |\
+              |\
+              refusal 29: there is no room for what goes out|",
             refusal,
         ),
         limit_of(refusal),
