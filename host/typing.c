@@ -1,6 +1,6 @@
 /*
- * typing: a small host program of a terminal with a Latin keyboard. It builds the image of a romaji table, types a text key by
- * key, and finishes. After each key it shows what went out and what waits.
+ * typing: a small host program of a terminal with a Latin keyboard. It builds the image of a romaji table, types a text byte by
+ * byte, as keys are pressed, and finishes. After each byte it shows what went out and what waits.
  *
  *     typing TEXT
  */
@@ -34,7 +34,7 @@ enum { WORK_WORDS = 2 * (2 + 6 + 12), IMAGE_BYTES = 25 + 8 * WORK_WORDS + 4 * 4 
 static uint32_t work[WORK_WORDS];
 static uint8_t image[IMAGE_BYTES];
 
-/* Nothing waits at first. No kana has more than two labels, so the room is enough for all that waits and one key more. */
+/* Nothing waits at first. No text of the table has more than two labels, so there is room for all that waits and one byte more. */
 static uint8_t state[LXTR_ROMAJI_STATE_BYTES];
 static uint8_t room[4 * 2 * LXTR_ROMAJI_STATE_BYTES];
 
@@ -70,11 +70,11 @@ int main(int argc, char **argv)
 	size_t length = lxtr_number(built);
 
 	for (const char *at = argv[1]; *at != '\0'; at++) {
-		uint8_t key = (uint8_t)*at;
-		uint64_t out = lxtr_romaji_type(image, length, kana, sizeof kana, state, sizeof state, &key, 1, room, sizeof room);
+		uint8_t byte = (uint8_t)*at;
+		uint64_t out = lxtr_romaji_type(image, length, kana, sizeof kana, state, sizeof state, &byte, 1, room, sizeof room);
 		if (lxtr_refusal(out) != 0)
 			return refused("typing", out);
-		write_character(key, stdout);
+		write_character(byte, stdout);
 		printf(":");
 		show(lxtr_number(out));
 	}

@@ -188,8 +188,8 @@ uint64_t lxtr_fault(const uint8_t *image, size_t image_length);
 
 /*
  * Finds the highest value of an image's keys: whether there is one, and the value as the number. Only an image without keys has
- * none. A table that the host keeps beside the image, with a row for each value from 0, is long enough for every key if it has a
- * row for this value. An image from another builder may have values far above its number of keys. Refusals: 1 to 12, in this
+ * none. A table that the host keeps beside the image, with an entry for each value from 0 (such as a kana table), is long enough
+ * for every key if it has an entry for this value. An image from another builder may have values far above its number of keys. Refusals: 1 to 12, in this
  * order. Each call checks the whole image.
  */
 uint64_t lxtr_highest(const uint8_t *image, size_t image_length);
@@ -238,35 +238,39 @@ uint64_t lxtr_complete(const uint8_t *image, size_t image_length, const uint8_t 
                        uint8_t *room, size_t room_length);
 
 /*
- * Turns typed bytes into kana, one key press or many bytes in a call. The keys of the image are the romaji, such as ka; each byte
- * is the label of its number. The number is how many labels go out, modulo 2^32. Refusals: 1 to 12, 24, 25, 29, in this order.
- * Each call checks the whole image.
+ * Turns romaji (Japanese typed in Latin letters) into kana, one key press or many bytes in a call. The keys of the image are the
+ * romaji, such as ka, and each typed byte is the label of its number. The labels that go out are written to the room; the number
+ * is how many they are, modulo 2^32. Refusals: 1 to 12, 24, 25, 29, in this order. Each call checks the whole image.
  *
  * The text is what the call before kept, followed by typed. From its front on, at each place:
  * - if all that is left of the text is the beginning of a longer key, it is kept, and nothing more goes out;
- * - if not, the longest key with which the rest of the text begins is taken, and its kana goes out;
- * - if there is no such key, one byte passes: the label of its number goes out.
+ * - if not, the longest key with which the rest of the text begins is taken, and the text that the kana table has for its value
+ *   goes out;
+ * - if there is no such key, one byte goes out, as the label of its number.
  * With n for U+3093 and na for U+306A, n is kept. If a comes next, U+306A goes out; if n comes next, U+3093 goes out, and the
  * second n is kept. A text may be typed in any number of calls: the same goes out, and the same is kept. A key with a label above
  * 255 cannot be typed, but its beginning is kept like any other.
  *
  * kana is the kana table of the image. It has a text for each value number from 0 to the highest of the image: a byte with the
  * number of labels, and the labels in four bytes each, the highest byte first. A number that no key has as its value has a text
- * too, which may be a single 0. The numbers in a text need not be scalar values, and bytes past the last text are not read.
+ * too, which may be a single 0. An image without keys needs no table. The numbers in a text need not be scalar values, and bytes
+ * past the last text are not read.
  *
- * state holds what is kept, in LXTR_ROMAJI_STATE_BYTES bytes: the number of kept bytes, from 0 to 63, then these bytes, then
- * zeros. Before the first call all are zeros; after that, pass what the call before left. What waits is thus the state[0] bytes
- * at state + 1, and a host may show it. It may come from a call with another image. A state of another length, or with bytes that
- * no call leaves, is not refused: the call returns and keeps to its memory, but what it answers is not specified.
+ * state holds what is kept, in LXTR_ROMAJI_STATE_BYTES bytes: the number of kept bytes, below LXTR_ROMAJI_STATE_BYTES, then these
+ * bytes, then zeros. Before the first call all are zeros; after that, pass what the call before left. A host may show what is
+ * kept: the state[0] bytes at state + 1. The state may come from a call with another image. A refusal leaves it unchanged, so
+ * after 29 the same bytes can be typed again with more room. A state of another length, or with bytes that no call leaves, is not
+ * refused: the call returns and stays within its memory, but what it answers is not specified.
  *
  * Afterwards the labels that go out are at the front of the room, in four bytes each, the highest byte first. Bytes past them are
- * unchanged. What is kept needs no room. Each byte of the text gives at most as many labels as the longest text of the table has,
- * or one. To type one key, with a table whose texts have at most two labels:
+ * unchanged. What is kept needs no room. Room is enough if it has, for each byte of the text, four bytes for each label of the
+ * longest text of the table, and at least four. To type one byte, `uint8_t byte`, with a table whose texts have at most two
+ * labels:
  *
- *     uint8_t state[LXTR_ROMAJI_STATE_BYTES] = { 0 };        before the first key
- *     uint8_t room[4 * 2 * LXTR_ROMAJI_STATE_BYTES];         for 63 kept bytes and one more
+ *     uint8_t state[LXTR_ROMAJI_STATE_BYTES] = { 0 };  // before the first key press
+ *     uint8_t room[4 * 2 * LXTR_ROMAJI_STATE_BYTES];   // for all that can be kept, and one byte more
  *
- *     uint64_t out = lxtr_romaji_type(image, image_length, kana, kana_length, state, sizeof state, &key, 1, room, sizeof room);
+ *     uint64_t out = lxtr_romaji_type(image, image_length, kana, kana_length, state, sizeof state, &byte, 1, room, sizeof room);
  *     if (lxtr_refusal(out) == 0)
  *         show(room, lxtr_number(out), state + 1, state[0]);
  */
@@ -275,8 +279,8 @@ uint64_t lxtr_romaji_type(const uint8_t *image, size_t image_length, const uint8
                           uint8_t *room, size_t room_length);
 
 /*
- * Ends typing, when the clerk finishes: what is kept goes out by the same rule, but nothing is kept any more. After n, U+3093
- * goes out. Afterwards the state is all zeros. Table, state, room, number and refusals are those of lxtr_romaji_type.
+ * Ends a text: call it when nothing more will be typed. What is kept goes out by the same rules, but nothing is kept any more.
+ * After n, U+3093 goes out. Afterwards the state is all zeros. Table, state, room, number and refusals are those of lxtr_romaji_type.
  */
 uint64_t lxtr_romaji_finish(const uint8_t *image, size_t image_length, const uint8_t *kana, size_t kana_length,
                             uint8_t *state, size_t state_length, uint8_t *room, size_t room_length);

@@ -189,7 +189,7 @@ impl Romaji {
         if rest.is_empty() || keeping && self.waits(rest) {
             return None;
         }
-        let Some((length, value)) = self.winner(rest) else {
+        let Some((length, value)) = self.longest_key(rest) else {
             return Some(Piece { from, to: from + self.passing(rest), value: None });
         };
         let to = from + self.rules.either(length, Wrong::NextPlaceByOne, 1);
@@ -214,7 +214,7 @@ impl Romaji {
     }
 
     /// The length and the value of the longest key at the front of a text.
-    fn winner(&self, text: &[u32]) -> Option<(usize, u32)> {
+    fn longest_key(&self, text: &[u32]) -> Option<(usize, u32)> {
         let most = self.rules.either(self.longest, Wrong::LongestKeyMissed, KEPT_BYTES);
         let mut lengths = 1..=text.len().min(most);
         let key = |length: usize| Some((length, *self.pairs.get(&text[..length])?));
@@ -226,7 +226,7 @@ impl Romaji {
         found.filter(|(length, value)| !self.overlooked(text, *length, *value))
     }
 
-    /// Whether a wrong variant does not see a key that is at the front of a text.
+    /// Whether a wrong variant misses a key that is at the front of a text.
     fn overlooked(&self, text: &[u32], length: usize, value: u32) -> bool {
         let goes_on = text.len() > length && self.could_grow(&text[..=length]);
         self.rules.breaks(Wrong::KeyAtEndOfWalk) && goes_on

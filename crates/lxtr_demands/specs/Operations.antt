@@ -1,6 +1,6 @@
 -- A program as the demands see it: what each operation answers, and what lent memory holds afterwards, for every input.
--- Demands 2 and 3 are about any such program. `defined` consists of the definitions, with which the contracts equate what the code
--- answers.
+-- Demands 2 and 3 and that of the highest value are about any such program. `defined` consists of the definitions, with which the
+-- contracts equate what the code answers.
 use Prim.Native.Nat.{ℕ}
 use mathlib.Core.List.{List}
 use Rattle.lxtr_spec.specs.Refusals.{checkOf}

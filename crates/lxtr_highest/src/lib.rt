@@ -35,7 +35,7 @@ fn larger(m: u32, n: u32) -> u32
     if m < n { n } else { m }
 }
 
-// The highest value of the ends, or none. The loop has no branch: `bound` is one more than the highest value so far, or 0.
+// The highest value of the ends, or none. The loop needs no case for none: `bound` is one more than the highest value so far, or 0.
 fn highest_value(image: &[u8]) -> Found
     requires { ⌜ Whole (now image) ⌝ }
     ensures { λ r. ⌜ found r ≡ highestBelow (now (image .entry)) (slotCount (now (image .entry))) ⌝ }

@@ -172,7 +172,7 @@ pub fn print_usage() {
           lxtr build KEYS IMAGE         makes the image of a key list\n\
           lxtr keys TEXT KEYS           makes a key list from a text file, one word per line\n\
           lxtr draw IMAGE               a graph for Graphviz, with the fault in red\n\
-          lxtr type IMAGE KANA TEXT     what goes out when a text is typed, and what waits\n\
+          lxtr type IMAGE KANA TEXT     the kana of a typed text, and what waits for more letters\n\
           lxtr help                     this text\n",
     );
 }

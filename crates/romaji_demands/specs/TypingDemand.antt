@@ -59,7 +59,7 @@ abbrev pub textOf : State → List ℕ → List ℕ
 textOf s typed = keptIn s ++ typed
 
 pub record TypingDemand (o : Program) : Type 0 where
-  -- Image and table are refused by a number, or they are ready, and by this alone.
+  -- Every image and table is refused by a number or is ready; state, text and room do not count here.
   pub decided : (b kana : List ℕ) → ((k : ℕ) × RefusedBy b kana k) ⊎ ((d : PairSet) × Ready b kana d)
   -- A refusal leaves state and room as they are.
   pub refused : (b kana : List ℕ) (k : ℕ) → RefusedBy b kana k → (s : State) (typed room : List ℕ)
@@ -74,7 +74,7 @@ pub record TypingDemand (o : Program) : Type 0 where
   pub finished : (b kana : List ℕ) (d : PairSet) → Ready b kana d → (s : State) (room : List ℕ) → Bytes (textOf s [])
       → Answers d Never kana s (textOf s []) room (o .finish b kana s room)
 
--- One call, and then another with the state and the room that it left: both in one, where both went out.
+-- The answer of two calls as one, if neither was refused. The second gets the state and the room that the first left.
 abbrev pub roomLeft : TypingAnswer → List ℕ
 roomLeft a = drop (4 * a .answer .count) (a .room)
 

@@ -14,12 +14,12 @@ use Rattle.romaji_spec.specs.declared.State.{State}
 unfoldable pub stateBytes : State → List ℕ
 stateBytes s = s .count ∷ s .kept
 
--- The bytes kept in a state of that form. (Other bytes come from no call, and the paper leaves their answer free; here as many bytes
+-- The bytes kept in a state of that form. (Other bytes come from no call, and document 02 leaves their answer free; here as many bytes
 -- are kept as the first one says and as there are, up to the limit.)
 unfoldable pub keptBytes : List ℕ → List ℕ
 keptBytes bytes = take (byteAt bytes 0) (take maxKept (drop 1 bytes))
 
--- After an answer without refusal the state is in that form again. (Other bytes of lent state hold as much of it as fits.)
+-- After an answer without refusal the state is in that form again. (A lent state of another length holds as much of it as fits.)
 pub record HostTyping : Type 0 where
   pub number : ℕ
   pub state : List ℕ

@@ -14,7 +14,7 @@ use Rattle.romaji_spec.specs.Pieces.{maxKept, Cutting, cut, outgoing}
 use Rattle.romaji_spec.specs.declared.State.{State}
 use Rattle.romaji_spec.specs.declared.Typed.{Typed}
 
--- The bytes that a state keeps. (A state that counts more bytes than it has comes from no call, and the paper leaves its answer free;
+-- The bytes that a state keeps. (A state that counts more bytes than it has comes from no call, and document 02 leaves its answer free;
 -- here all of its bytes are kept.)
 unfoldable pub keptIn : State → List ℕ
 keptIn s = take (s .count) (s .kept)

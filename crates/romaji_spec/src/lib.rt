@@ -11,8 +11,8 @@ pub struct State {
     pub kept: [u8; MAX_KEPT],
 }
 
-// Typing and finishing: how many labels went out, and the next state. `refusal` is 0 or a number of `lxtr_spec::refusals` from 1 to
-// 12 or one of those below; then no label went out, and the state is the one before the call.
+// Typing and finishing: how many labels went out, and the next state. `refusal` is 0, a number of `lxtr_spec::refusals` from 1 to
+// 12, or one of those below. If it is not 0, no label went out, and the state is the one before the call.
 pub struct Typed {
     pub refusal: u8,
     pub count: usize,

@@ -18,7 +18,7 @@ start c = c .before .before .before .before .before .before .before .before .bef
 abbrev lent : tie.After-slice-known2 → tie.After-places3
 lent c = c .before .before .before .before .before
 
--- what owning the state tells: its array has the length of its type
+-- from owning the state: its array has the length of its type
 abbrev sized : (c : tie.After-places3) → length (start c .args .state .kept) ≡ maxKept
 unfolding maxKept maxLabels
 sized c = sym (length-map (start c .args .state .kept) (λ (x : ℕ). x)) ∙ start c .good .1 .1 .0 .1 .1 .1 .0 .1 .0 .1

@@ -1,5 +1,5 @@
 -- Two calls and one: what goes out of two cuttings, one after the other, is what goes out of the joined cutting, and if one of them has
--- no room, neither has the whole. The second call's room is what the first one left.
+-- no room, the whole has none either. The second call's room is what the first one left.
 use Prim.Native.Nat.{ℕ, _+_, _*_, _-_, _≤_, _<_}
 use native.Mathlib.Omega.{arith}
 use native.Mathlib.Decide.{decLt}

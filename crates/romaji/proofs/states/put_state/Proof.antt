@@ -20,7 +20,7 @@ abbrev μ-loop : tie.MeasureT-loop
 abbrev start : tie.After-kept Inv-loop μ-loop → tie.Start Inv-loop μ-loop
 start c = c .before .before .before .before
 
--- what owning the state tells: its array has the length of its type
+-- from owning the state: its array has the length of its type
 abbrev sized : (c : tie.After-kept Inv-loop μ-loop) → length (start c .args .state .kept) ≡ maxKept
 unfolding maxKept maxLabels
 sized c = sym (length-map (start c .args .state .kept) (λ (x : ℕ). x)) ∙ start c .good .0 .1 .1 .1 .0 .1 .0 .1
