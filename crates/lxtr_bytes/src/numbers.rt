@@ -1,6 +1,6 @@
-// 32-bit numbers as four bytes, in either byte order.
+// 32-bit numbers as four bytes, in either byte order; an index, and the lesser of two.
 ghost use mathlib.Core.Path.{_≡_};
-ghost use Prim.Native.Nat.{_+_, _*_, _/_, _%_, _^_, _≤_, _<_};
+ghost use Prim.Native.Nat.{_+_, _*_, _/_, _%_, _^_, _≤_, _<_, min};
 ghost use lib.ListN.{length};
 ghost use Rattle.lxtr_spec.specs.Numbers.{le32, be32, leBytes, beBytes};
 ghost use Rattle.lxtr_laws.specs.Overlays.{over};
@@ -51,6 +51,13 @@ pub fn index(x: u32) -> usize
     ensures { λ r. ⌜ (r ≡ x) × (r < 2 ^ 32) ⌝ }
 {
     x as usize
+}
+
+// The lesser of two numbers.
+pub fn lesser(a: usize, b: usize) -> usize
+    ensures { λ r. ⌜ r ≡ min a b ⌝ }
+{
+    if a < b { a } else { b }
 }
 
 // Writes a number as four bytes at position `at`, the lowest first.

@@ -10,6 +10,7 @@ use lib.ListN.{length, take, drop, set, getD, length-set}
 use lib.Seq.{take-nil, take-suc, drop-cons, append-snoc, set-at, length-take-le}
 use Rattle.lxtr_spec.specs.Ranges.{concatFrom}
 use Rattle.lxtr_spec.specs.Labels.{lengthCount}
+use Rattle.lxtr_laws.specs.Overlays.{all-words}
 use Rattle.lxtr_spec.specs.HostNumbers.{placeWords, alternately, atFront}
 
 module _ (xs ys : List ℕ) where
@@ -63,13 +64,6 @@ next-word ws places i h l =
     rw (drop-cons places i 0 l, take-suc ws i 0 h)
     (set-at (take i ws) (getD places i 0) (drop (suc i) places) (getD ws i 0) i (length-take-le i ws (omega arith))
     ∙ sym (append-snoc (take i ws) (getD ws i 0) (drop (suc i) places)))
-
--- all words, or as many as there is room for
-pub all-words : (ws places : List ℕ) (i : ℕ) → i ≡ min (length ws) (length places) → take i ws ++ drop i places ≡ take (length places) ws ++ drop (length ws) places
-all-words [] places i e = let z : i ≡ 0 = omega arith in rw (z, take-nil)
-all-words (w ∷ ws) [] i e = let z : i ≡ 0 = omega arith in rw z
-all-words (w ∷ ws) (p ∷ places) zero e = absurd (omega arith)
-all-words (w ∷ ws) (p ∷ places) (suc i) e = ap (λ (l : List ℕ). w ∷ l) (all-words ws places i (omega arith))
 
 module _ (xs ys places₀ places : List ℕ) (i : ℕ) (g : WordsIn xs ys places₀ places i) (count : ℕ) (all : count ≡ min (2 * lengthCount) (length places₀)) where
   words-next : (w : ℕ) → w ≡ getD (alternately xs ys) i 0 → i < count → WordsIn xs ys places₀ (set places i w) (i + 1)

@@ -1,18 +1,11 @@
 // The matches of prefixes as words: alternating length and value.
 ghost use mathlib.Core.Path.{_≡_};
-ghost use Prim.Native.Nat.{min};
 ghost use Rattle.lxtr_spec.specs.HostNumbers.{alternately, atFront};
+use lxtr_bytes::numbers::lesser;
 use lxtr_spec::LENGTH_COUNT;
 
 // The number of words for all lengths and values.
 const WORD_COUNT: usize = 2 * LENGTH_COUNT;
-
-// The lesser of two numbers.
-pub fn lesser(a: usize, b: usize) -> usize
-    ensures { λ r. ⌜ r ≡ min a b ⌝ }
-{
-    if a < b { a } else { b }
-}
 
 // Writes lengths and values to the front of `places`, as many as fit. Words after them stay.
 pub fn put_places<'a>(

@@ -1,12 +1,12 @@
 -- Bytes written over a room, starting at a place, as stores do it: byte by byte, one number, several numbers.
-use Prim.Native.Nat.{ℕ, suc, _+_, _*_, _≤_, _<_}
+use Prim.Native.Nat.{ℕ, zero, suc, _+_, _*_, _≤_, _<_, min}
 use mathlib.Core.Path.{_≡_, refl, sym, ap, _∙_}
 use mathlib.Core.List.{List, [], _∷_, _++_, append-assoc}
 use native.Mathlib.Nat.{add-zero}
 use native.Mathlib.Numerals.{add-one, add-two, add-three}
 use native.Mathlib.Omega.{arith}
 use lib.ListN.{length, take, drop, set, getD, length-append, length-take, length-drop, take-append-drop}
-use lib.Seq.{sets, set-split, set-comm, take-at, drop-append-add, drop-drop, length-take-le, length-sets, sets-eq, take-suc}
+use lib.Seq.{sets, set-split, set-comm, take-at, drop-append-add, drop-drop, length-take-le, length-sets, sets-eq, take-suc, take-nil}
 use Rattle.lxtr_laws.specs.ByteOrders.{ByteOrder, words-size, words-append, words-one}
 
 -- the room with the bytes xs, starting at a place
@@ -92,3 +92,10 @@ module _ {bytes : ℕ → List ℕ} {words : List ℕ → List ℕ} (order : Byt
         let o = length-take-le i xs (omega arith) in
         let all : words (take (i + 1) xs) ≡ words (take i xs) ++ bytes (getD xs i 0) = rw (add-one i, take-suc xs i 0 (omega arith), words-append order, words-one order) in
         e ∙ rw (before, all) (over-over r at (words (take i xs)) (bytes (getD xs i 0)) (at + 4 * i) (omega arith) (omega arith))
+
+-- the first i of some numbers at the front of a room: all of them, or as many as there is room for
+pub all-words : (ws places : List ℕ) (i : ℕ) → i ≡ min (length ws) (length places) → take i ws ++ drop i places ≡ take (length places) ws ++ drop (length ws) places
+all-words [] places i e = let z : i ≡ 0 = omega arith in rw (z, take-nil)
+all-words (w ∷ ws) [] i e = let z : i ≡ 0 = omega arith in rw z
+all-words (w ∷ ws) (p ∷ places) zero e = absurd (omega arith)
+all-words (w ∷ ws) (p ∷ places) (suc i) e = ap (λ (l : List ℕ). w ∷ l) (all-words ws places i (omega arith))

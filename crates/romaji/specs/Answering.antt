@@ -125,7 +125,7 @@ module _ (keeping : Bool) (b kana : List ℕ) (s : State) (typed room : List ℕ
         none-refused (hasEmptyKey b) 25 0 refl .0 (none-refused (tableShort kana (highestOf b .value)) 24 (refuseIf (hasEmptyKey b) 25 0) refl .0 later .1) .0
 
     -- c bytes of the state are kept
-    pub convert-goes : (c : ℕ) (answer : TypingAnswer) → length (s .kept) ≡ maxKept → c ≡ min (s .count) maxKept
+    pub convert-goes : (c m : ℕ) (answer : TypingAnswer) → (m ≡ maxKept) × (length (s .kept) ≡ maxKept) → c ≡ min (s .count) m
         → answer ≡ answered kana s room (cut keeping b (take c (s .kept) ++ typed)) → answer ≡ convert keeping b kana s typed room
     unfolding convert unlessRefused keptIn
-    convert-goes c answer sized count e = e ∙ rw (← known, fine, take-least (s .kept) c (s .count) (omega arith))
+    convert-goes c m answer (has, sized) count e = e ∙ rw (← known, fine, take-least (s .kept) c (s .count) (omega arith))

@@ -8,7 +8,7 @@ use mathlib.Core.List.{List, [], _∷_, _++_}
 use lib.ListN.{length, take, drop, getD, set, length-take, length-drop, length-set}
 use lib.Seq.{take-take, paste, paste-zero, paste-suc}
 use Rattle.lxtr_spec.specs.HostNumbers.{atFront}
-use Rattle.lxtr_host.specs.PlaceWords.{all-words}
+use Rattle.lxtr_laws.specs.Overlays.{all-words}
 use Rattle.romaji_spec.specs.Pieces.{maxKept}
 use Rattle.romaji_spec.specs.Typing.{stateOf}
 use Rattle.romaji_spec.specs.HostStates.{stateBytes, keptBytes}
@@ -52,8 +52,8 @@ pub record KeptPut (kept bytes₀ : List ℕ) (n i : ℕ) (bytes : List ℕ) : T
   pub are : bytes ≡ paste bytes₀ 1 kept i
 
 module _ (kept bytes₀ : List ℕ) (n : ℕ) where
-  pub put-start : length bytes₀ ≢ 0 → length kept ≡ maxKept → n ≡ min maxKept (length bytes₀ - 1) → KeptPut kept bytes₀ n 0 bytes₀
-  put-start z sized count = record { some = omega arith; sized = sized; count = count; to = omega arith; same = refl; are = paste-zero bytes₀ 1 kept }
+  pub put-start : (m : ℕ) → length bytes₀ ≢ 0 → (m ≡ maxKept) × (length kept ≡ maxKept) → n ≡ min m (length bytes₀ - 1) → KeptPut kept bytes₀ n 0 bytes₀
+  put-start m z (has, sized) count = record { some = omega arith; sized = sized; count = count ∙ ap (λ (k : ℕ). min k (length bytes₀ - 1)) has; to = omega arith; same = refl; are = paste-zero bytes₀ 1 kept }
 
   module _ (i : ℕ) (bytes : List ℕ) (before : KeptPut kept bytes₀ n i bytes) where
     open KeptPut before using (some, sized, count, to, same)

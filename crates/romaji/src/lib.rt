@@ -26,13 +26,13 @@ use crate::tables::place_count;
 use crate::tables::put_places;
 use crate::tables::table_short;
 use crate::texts::kept_count;
+use crate::texts::kept_room;
 use crate::texts::rest_kept;
 use crate::texts::text_length;
 use lxtr_highest::highest;
 use lxtr_search::exact;
 use lxtr_spec::Found;
 use romaji_spec::EMPTY_KEY;
-use romaji_spec::MAX_KEPT;
 use romaji_spec::NO_ROOM;
 use romaji_spec::State;
 use romaji_spec::TABLE_TOO_SHORT;
@@ -213,7 +213,7 @@ fn convert(
     }
     let texts = table.count;
     let bytes = state.kept;
-    let count = kept_count(state.count, MAX_KEPT);
+    let count = kept_count(state.count, kept_room(state));
     convert_text(
         image,
         kana,

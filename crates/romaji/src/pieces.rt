@@ -19,7 +19,7 @@ use crate::texts::text_length;
 use lxtr_bytes::labels::label_at;
 use lxtr_bytes::labels::label_count;
 use lxtr_bytes::numbers::put_be32;
-use lxtr_host::places::lesser;
+use lxtr_bytes::numbers::lesser;
 use lxtr_search::exact;
 use lxtr_search::longest;
 use lxtr_search::probe;

@@ -4,8 +4,9 @@ ghost use Rattle.lxtr_spec.specs.HostNumbers.{atFront};
 ghost use Rattle.romaji_spec.specs.Typing.{stateOf};
 ghost use Rattle.romaji_spec.specs.HostStates.{stateBytes, keptBytes};
 use crate::texts::kept_count;
+use crate::texts::kept_room;
 use crate::texts::rest_kept;
-use lxtr_host::places::lesser;
+use lxtr_bytes::numbers::lesser;
 use romaji_spec::MAX_KEPT;
 use romaji_spec::State;
 
@@ -28,7 +29,7 @@ pub fn put_state(state: State, bytes: &mut [u8])
     if bytes.len() == 0 {
         return;
     }
-    let count = lesser(MAX_KEPT, bytes.len() - 1);
+    let count = lesser(kept_room(state), bytes.len() - 1);
     let kept = state.kept;
     let mut i = 0;
     while i < count {

@@ -7,7 +7,7 @@ ghost use Rattle.lxtr_spec.specs.Answers.{found};
 ghost use Rattle.romaji_spec.specs.KanaTables.{textEnd, textAt, textBytes, textCut, tableShort};
 ghost use Rattle.romaji.specs.Tables.{mostPlaces, textPlaces, Indexed};
 use lxtr_bytes::numbers::index;
-use lxtr_host::places::lesser;
+use lxtr_bytes::numbers::lesser;
 use lxtr_spec::Found;
 
 // The most texts whose places are kept.

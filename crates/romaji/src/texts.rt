@@ -8,7 +8,7 @@ ghost use Rattle.lxtr_laws.specs.Overlays.{over};
 ghost use Rattle.romaji_spec.specs.Pieces.{maxKept};
 ghost use Rattle.romaji_spec.specs.Typing.{stateOf};
 use lxtr_bytes::numbers::put_be32;
-use lxtr_host::places::lesser;
+use lxtr_bytes::numbers::lesser;
 use romaji_spec::MAX_KEPT;
 use romaji_spec::State;
 
@@ -50,6 +50,13 @@ pub fn put_query(kept: &[u8], typed: &[u8], at: usize, count: usize, query: &mut
         put_label(kept, typed, at + i, query, i);
         i += 1;
     }
+}
+
+// How many bytes a state has for what is kept.
+pub fn kept_room(state: State) -> usize
+    ensures { λ r. ⌜ (r ≡ maxKept) × (length (state .kept) ≡ maxKept) ⌝ }
+{
+    MAX_KEPT
 }
 
 // How many bytes are kept: as many as the state says, but not more than it has.

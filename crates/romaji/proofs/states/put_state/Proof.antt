@@ -1,9 +1,7 @@
 -- Invariant: the first i bytes that the state keeps are behind the first byte. That one is written last.
 use borrow.Author.Needs.{needs}
 use native.Mathlib.Omega.{arith}
-use Prim.Native.Nat.{ℕ, _-_}
-use mathlib.Core.Path.{_≡_, sym, _∙_}
-use lib.ListN.{length, length-map}
+use Prim.Native.Nat.{_-_}
 use Rattle.lxtr_spec.specs.Labels.{maxLabels}
 use Rattle.romaji_spec.specs.Pieces.{maxKept}
 use Rattle.romaji.specs.StateBytes.{KeptPut, put-none, put-start, put-read, put-place, put-next, put-first, put-all}
@@ -16,15 +14,6 @@ Inv-loop state bytes₀ count kept i₀ bytes i = KeptPut (state .kept) bytes₀
 abbrev μ-loop : tie.MeasureT-loop
 μ-loop state bytes₀ count kept i₀ bytes i = count - i
 
--- the start, where facts are taken from
-abbrev start : tie.After-kept Inv-loop μ-loop → tie.Start Inv-loop μ-loop
-start c = c .before .before .before .before
-
--- from owning the state: its array has the length of its type
-abbrev sized : (c : tie.After-kept Inv-loop μ-loop) → length (start c .args .state .kept) ≡ maxKept
-unfolding maxKept maxLabels
-sized c = sym (length-map (start c .args .state .kept) (λ (x : ℕ). x)) ∙ start c .good .0 .1 .1 .1 .0 .1 .0 .1
-
 pub put-state-spec : {M : Type 1} → statement M
 unfolding maxKept maxLabels
 put-state-spec =
@@ -33,9 +22,10 @@ put-state-spec =
     Inv-loop
     μ-loop
     (λ c. search put-none)
+    (λ c κs. search needs)
     (λ c. search needs)
     (λ c κs. search needs)
-    (λ c. search (put-start, sized c))
+    (λ c. search put-start)
     (λ c. search put-read)
     (λ c. search needs)
     (λ c. search put-place)
