@@ -7,8 +7,8 @@ ghost use Rattle.lxtr_spec.specs.Numbers.{beBytes, beWords};
 ghost use Rattle.lxtr_laws.specs.Overlays.{over};
 ghost use Rattle.romaji_spec.specs.Pieces.{maxKept};
 ghost use Rattle.romaji_spec.specs.Typing.{stateOf};
-use lxtr_bytes::numbers::put_be32;
 use lxtr_bytes::numbers::lesser;
+use lxtr_bytes::numbers::put_be32;
 use romaji_spec::MAX_KEPT;
 use romaji_spec::State;
 

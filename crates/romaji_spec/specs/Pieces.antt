@@ -15,7 +15,8 @@ use Rattle.romaji_spec.specs.KanaTables.{kanaOf}
 unfoldable pub maxKept : ℕ
 maxKept = maxLabels - 1
 
--- a rest that could still grow, being a proper front part of a key: probe says that longer keys exist
+-- a rest that could still grow, being a proper front part of a key: probe says that longer keys exist. (The bound takes nothing
+-- away: a longer rest is no proper front part of a key.)
 unfoldable pub couldGrow : List ℕ → List ℕ → Bool
 couldGrow b r = leb (length r) maxKept && probeOf b (beWords r) .longer
 

@@ -2,7 +2,8 @@
 -- The loop ends at the end of the text, at a rest that is kept, or when there are more labels.
 use borrow.Author.Needs.{needs}
 use Prim.Native.Nat.{_-_}
-use Rattle.romaji.specs.Counting.{Counted, count-start, count-here, count-end, count-stop, count-over, count-next, count-less, count-fits}
+use Rattle.romaji.specs.Progress.{going-here, going-less, going-fits}
+use Rattle.romaji.specs.Counting.{Counted, count-start, count-end, count-stop, count-over, count-next}
 use Rattle.romaji.proofs.fits.Statement.{statement}
 use Rattle.romaji.proofs.fits.Tie as tie
 
@@ -20,11 +21,11 @@ fits-spec =
     μ-loop
     (λ c κs. search needs)
     (λ c. search count-start)
-    (λ c κs. (search needs, search count-here))
+    (λ c κs. (search needs, search going-here))
     (λ c κs. search needs)
     (λ c. search count-over)
-    (λ c. search (count-fits, needs))
-    (λ c. search count-less)
+    (λ c. search (going-fits, needs))
+    (λ c. search going-less)
     (λ c. search count-next)
     (λ c. search count-end)
     (λ c. search count-stop))

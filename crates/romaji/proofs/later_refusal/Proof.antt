@@ -1,7 +1,6 @@
 -- The table and the empty key are tested in this order, and each test has its number.
 use borrow.Author.Needs.{needs}
 use Rattle.lxtr_laws.specs.RefusalChains.{chain}
-use mathlib.Core.Path.{refl}
 use Rattle.romaji.proofs.later_refusal.Statement.{statement}
 use Rattle.romaji.proofs.later_refusal.Tie as tie
 
@@ -13,4 +12,4 @@ later-refusal-spec =
     (λ c. search chain)
     (λ c κs. search needs)
     (λ c. search chain)
-    (λ c. search (chain, refl)))
+    (λ c. search chain))

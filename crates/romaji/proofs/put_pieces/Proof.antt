@@ -2,7 +2,8 @@
 -- The loop ends at the end of the text, or at a rest that is kept.
 use borrow.Author.Needs.{needs}
 use Prim.Native.Nat.{_-_}
-use Rattle.romaji.specs.Writing.{Wrote, write-start, write-here, write-room, write-less, write-fits, write-next, write-end, write-stop}
+use Rattle.romaji.specs.Progress.{going-here, going-less, going-fits}
+use Rattle.romaji.specs.Writing.{Wrote, write-start, write-room, write-next, write-end, write-stop}
 use Rattle.romaji.proofs.put_pieces.Statement.{statement}
 use Rattle.romaji.proofs.put_pieces.Tie as tie
 
@@ -27,10 +28,10 @@ put-pieces-spec =
     μ-loop
     (λ c κs. search needs)
     (λ c. search write-start)
-    (λ c κs. (search needs, search write-here))
-    (λ c κs. (search needs, (search write-here, search write-room)))
-    (λ c. search (write-fits, needs))
-    (λ c. search write-less)
+    (λ c κs. (search needs, search going-here))
+    (λ c κs. (search needs, (search going-here, search write-room)))
+    (λ c. search (going-fits, needs))
+    (λ c. search going-less)
     (λ c. search write-next)
     (λ c. search needs)
     (λ c. search write-end)

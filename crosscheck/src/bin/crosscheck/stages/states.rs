@@ -26,7 +26,8 @@ fn any_state(random: &mut Random, table: &RomajiTable, length: usize) -> Vec<u8>
     let mut state = table.any_text(random, length);
     state.truncate(length);
     if let Some(count) = state.first_mut() {
-        *count = random.pick(&[0, 1, 2, 9, 10, 62, 63, 64, 65, 128, 255]);
+        let most = KEPT_BYTES as u8;
+        *count = random.pick(&[0, 1, 2, 9, 10, most - 1, most, most + 1, most + 2, 128, 255]);
     }
     state
 }
