@@ -11,7 +11,7 @@ use Rattle.lxtr_spec.specs.Refusals.{imageRefusal}
 use Rattle.lxtr_spec.specs.Sets.{PairSet, Has, ImageOf}
 use Rattle.lxtr_spec.specs.Meaning.{Longer}
 use Rattle.romaji_spec.specs.KanaTables.{textAt}
-use Rattle.romaji_spec.specs.Pieces.{Piece, outgoing}
+use Rattle.romaji_spec.specs.Pieces.{maxKept, Piece, outgoing}
 use Rattle.romaji_spec.specs.Typing.{keptIn, TypingAnswer, refusedBy, wentOut, typeOf, finishOf}
 use Rattle.romaji_spec.specs.declared.State.{State}
 use Rattle.romaji_demands.specs.Cuts.{CutInto, OneCut, TypedAs, Never, FinishedAs}
@@ -61,6 +61,9 @@ textOf s typed = keptIn s ++ typed
 pub record TypingDemand (o : Program) : Type 0 where
   -- Every image and table is refused by a number or is ready; state, text and room do not count here.
   pub decided : (b kana : List ℕ) → ((k : ℕ) × RefusedBy b kana k) ⊎ ((d : PairSet) × Ready b kana d)
+  -- Not both, and not by two numbers.
+  pub one-refusal : (b kana : List ℕ) (k j : ℕ) → RefusedBy b kana k → RefusedBy b kana j → k ≡ j
+  pub not-both : (b kana : List ℕ) (k : ℕ) (d : PairSet) → RefusedBy b kana k → Ready b kana d → ⊥
   -- A refusal leaves state and room as they are.
   pub refused : (b kana : List ℕ) (k : ℕ) → RefusedBy b kana k → (s : State) (typed room : List ℕ)
       → (o .type b kana s typed room ≡ refusedBy k s room) × (o .finish b kana s room ≡ refusedBy k s room)
@@ -68,6 +71,8 @@ pub record TypingDemand (o : Program) : Type 0 where
   pub some-cut : (b kana : List ℕ) (d : PairSet) → Ready b kana d → (t : List ℕ) → Bytes t
       → ((ps : List Piece) × (rest : List ℕ) × TypedAs d t ps rest) × ((ps : List Piece) × FinishedAs d t ps [])
   pub one-cut : (b kana : List ℕ) (d : PairSet) → Ready b kana d → OneCut d (Longer d) × OneCut d Never
+  -- the rest fits into a state;
+  pub few-kept : (b kana : List ℕ) (d : PairSet) → Ready b kana d → (t : List ℕ) (ps : List Piece) (rest : List ℕ) → TypedAs d t ps rest → length rest ≤ maxKept
   -- and what goes out and what is kept is that cutting's.
   pub typed : (b kana : List ℕ) (d : PairSet) → Ready b kana d → (s : State) (typed room : List ℕ) → Bytes (textOf s typed)
       → Answers d (Longer d) kana s (textOf s typed) room (o .type b kana s typed room)
