@@ -10,6 +10,9 @@ pub mod CutTexts
 pub mod TableRefusals
 -- The demand.
 pub mod Typing
+pub mod Outcomes
 -- What two calls answer.
 pub mod TwoCalls
 pub mod Parts
+-- The forms that C has.
+pub mod HostForms
