@@ -5,4 +5,5 @@ pub mod HostForms
 pub mod Laws
 pub mod TypingRows
 pub mod TypingExamples
+pub mod TypingLimits
 pub mod TypingInstances
