@@ -19,10 +19,10 @@ use Rattle.lxtr_spec.specs.Meaning.{LongestIn, Longer}
 use Rattle.lxtr_laws.specs.Tests.{and-is-true}
 use Rattle.lxtr_laws.specs.Lengths.{words-length}
 use Rattle.lxtr_laws.specs.StepFacts.{none-not-some}
+use Rattle.lxtr_laws.specs.QueryLabels.{labels-back}
 use Rattle.lxtr_demands.specs.Operations.{defined}
 use Rattle.lxtr_demands.specs.Demand2.{Searched, Answered}
 use Rattle.lxtr_demands.specs.Laws.Demand2.{demand2}
-use Rattle.lxtr_demands.specs.Laws.KeysBack.{labels-back}
 use Rattle.romaji_spec.specs.Pieces.{maxKept, couldGrow, Piece, matched, matchedValue, pieceBy, pieceAt, pieceText}
 use Rattle.romaji_demands.specs.Cuts.{NoKeyAt, PieceAt}
 use Rattle.romaji_demands.specs.TypingDemand.{Bytes}
