@@ -1,6 +1,6 @@
 -- What typing and finishing have to answer, of any program, in terms of the set of pairs of the image and the kana table.
--- Only the statements; that the definitions meet them is `typing-demand` in Laws/Typing.antt, and `typing-in-parts` and
--- `finishing-after-typing` in Laws/Parts.antt.
+-- Only the program that the statements are about, and the statements; that the definitions meet them is `typing-demand` in
+-- Laws/Typing.antt, and `typing-in-parts` and `finishing-after-typing` in Laws/Parts.antt.
 use Prim.Native.Nat.{ℕ, suc, _+_, _*_, _≤_, _<_, _^_}
 use mathlib.Core.Path.{_≡_}
 use mathlib.Core.Logic.{_≢_, _⊎_}
@@ -102,6 +102,8 @@ TypingInParts o = (b kana : List ℕ) (s : State) (t u room : List ℕ) → Byte
     → (let a = o .type b kana s t room in AtOnce s room a (o .type b kana (a .answer .state) u (roomLeft a)) (o .type b kana s (t ++ u) room))
 
 -- Finishing after typing is finishing the whole text: what both wrote is what one cutting of the whole text without a rest says.
+-- Here t stands for all that was typed since the state s: by `TypingInParts` several parts, each typed into the room that was left, leave
+-- the state and the room that typing them at once leaves.
 abbrev pub FinishingAfterTyping : Program → Type 0
 FinishingAfterTyping o = (b kana : List ℕ) (d : PairSet) → Ready b kana d → (s : State) (t room : List ℕ) → Bytes (textOf s t)
     → (let a = o .type b kana s t room in (whole : TypingAnswer) → Answers d Never kana s (textOf s t) room whole → AtOnce s room a (o .finish b kana (a .answer .state) (roomLeft a)) whole)
