@@ -33,30 +33,31 @@ GoneOut Rest room a = (out : List ℕ) × (rest : List ℕ) × (4 * length out �
 abbrev pub SomeCut : List ℕ → List ℕ → (PairSet → List ℕ → Type 0) → (List ℕ → Type 0) → List ℕ → Type 0
 SomeCut b kana Waits Rest text = (d : PairSet) → Ready b kana d → (ps : List Piece) × (rest : List ℕ) × CutInto d (Waits d) text ps rest × Rest rest
 
-module _ {b kana : List ℕ} {Waits : PairSet → List ℕ → Type 0} {Rest : List ℕ → Type 0} {s : State} {text room : List ℕ} (some-cut : SomeCut b kana Waits Rest text) where
-  pub outcome : {a : TypingAnswer} → Demanded b kana Waits s text room a → Refusal s room a ⊎ GoneOut Rest room a
-  outcome {a} x = ⊎-elim
-      (λ (k, r). inl (k, refusal-above-0 b kana k r, x .refused k r))
+-- the one answer that is demanded
+record TheAnswer (b kana : List ℕ) (Waits : PairSet → List ℕ → Type 0) (Rest : List ℕ → Type 0) (s : State) (text room : List ℕ) : Type 0 where
+  it : TypingAnswer
+  kind : Refusal s room it ⊎ GoneOut Rest room it
+  only : (a : TypingAnswer) → Demanded b kana Waits s text room a → a ≡ it
+
+module _ {b kana : List ℕ} {Waits : PairSet → List ℕ → Type 0} {Rest : List ℕ → Type 0} {text : List ℕ} (some-cut : SomeCut b kana Waits Rest text) where
+  the-answer : (s : State) (room : List ℕ) → TheAnswer b kana Waits Rest s text room
+  the-answer s room = ⊎-elim
+      (λ (k, r). record { it = refusedBy k s room; kind = inl (k, refusal-above-0 b kana k r, refl); only = λ a x. x .refused k r })
       (λ (d, ready). let (ps, rest, is, holds) = some-cut d ready in by-room d ready ps rest is holds (decLt (length room) (4 * length (outgoing kana ps))))
       (decided b kana)
     where
-      by-room : (d : PairSet) → Ready b kana d → (ps : List Piece) (rest : List ℕ) → CutInto d (Waits d) text ps rest → Rest rest → Dec (length room < 4 * length (outgoing kana ps)) → Refusal s room a ⊎ GoneOut Rest room a
-      by-room d ready ps rest is holds (yes short) = inl (29, λ e. omega (arith, e), x .answers d ready .no-room ps rest is short)
+      by-room : (d : PairSet) → Ready b kana d → (ps : List Piece) (rest : List ℕ) → CutInto d (Waits d) text ps rest → Rest rest → Dec (length room < 4 * length (outgoing kana ps)) → TheAnswer b kana Waits Rest s text room
+      by-room d ready ps rest is holds (yes short) = record { it = refusedBy 29 s room; kind = inl (29, λ e. omega (arith, e), refl); only = λ a x. x .answers d ready .no-room ps rest is short }
       by-room d ready ps rest is holds (no enough) =
           let h : 4 * length (outgoing kana ps) ≤ length room = omega arith in
-          inr (outgoing kana ps, rest, h, holds, x .answers d ready .goes-out ps rest is h)
+          record { it = wentOut room (outgoing kana ps) rest; kind = inr (outgoing kana ps, rest, h, holds, refl); only = λ a x. x .answers d ready .goes-out ps rest is h }
 
-  pub one-answer : {a c : TypingAnswer} → Demanded b kana Waits s text room a → Demanded b kana Waits s text room c → a ≡ c
-  one-answer {a} {c} x y = ⊎-elim
-      (λ (k, r). x .refused k r ∙ sym (y .refused k r))
-      (λ (d, ready). let (ps, rest, is, holds) = some-cut d ready in by-room d ready ps rest is (decLt (length room) (4 * length (outgoing kana ps))))
-      (decided b kana)
-    where
-      by-room : (d : PairSet) → Ready b kana d → (ps : List Piece) (rest : List ℕ) → CutInto d (Waits d) text ps rest → Dec (length room < 4 * length (outgoing kana ps)) → a ≡ c
-      by-room d ready ps rest is (yes short) = x .answers d ready .no-room ps rest is short ∙ sym (y .answers d ready .no-room ps rest is short)
-      by-room d ready ps rest is (no enough) =
-          let h : 4 * length (outgoing kana ps) ≤ length room = omega arith in
-          x .answers d ready .goes-out ps rest is h ∙ sym (y .answers d ready .goes-out ps rest is h)
+  module _ {s : State} {room : List ℕ} {a : TypingAnswer} (x : Demanded b kana Waits s text room a) where
+    pub outcome : Refusal s room a ⊎ GoneOut Rest room a
+    outcome = rw (the-answer s room .only a x) (the-answer s room .kind)
+
+    pub one-answer : {c : TypingAnswer} → Demanded b kana Waits s text room c → a ≡ c
+    one-answer {c} y = the-answer s room .only a x ∙ sym (the-answer s room .only c y)
 
 -- a back part of the text t that fits into a state
 abbrev pub FitsBehind : List ℕ → List ℕ → Type 0
