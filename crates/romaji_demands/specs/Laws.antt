@@ -14,5 +14,6 @@ pub mod Outcomes
 -- What two calls answer.
 pub mod TwoCalls
 pub mod Parts
+pub mod ManyParts
 -- The forms that C has.
 pub mod HostForms
