@@ -1,13 +1,16 @@
--- The labels of a query: how many there are, where the bytes of each are, and the labels of a front part.
-use Prim.Native.Nat.{ℕ, zero, suc, _+_, _*_, _/_, _<_, _≤_}
+-- The labels of a query: how many there are, where the bytes of each are, the labels of a front part, and those of a query that is
+-- written for given labels.
+use Prim.Native.Nat.{ℕ, zero, suc, _+_, _*_, _/_, _^_, _<_, _≤_}
 use mathlib.Core.Path.{_≡_, refl, sym, ap, _∙_}
-use mathlib.Core.List.{List}
+use mathlib.Core.List.{List, [], append-nil}
 use native.Mathlib.Nat.{add-zero, zero-add, not-suc-le-zero}
 use native.Mathlib.Omega.{arith}
 use lib.ListN.{length, getD, take}
 use lib.Seq.{length-take-le, getD-take, ext-getD}
-use Rattle.lxtr_spec.specs.Numbers.{be32}
+use Rattle.lxtr_spec.specs.Numbers.{be32, beWords}
 use Rattle.lxtr_spec.specs.Labels.{labelsFrom, labelsOf}
+use Rattle.lxtr_laws.specs.Lengths.{words-length}
+use Rattle.lxtr_laws.specs.ReadBack.{be-words}
 
 module _ (q : List ℕ) where
   count-from : (n i : ℕ) → length (labelsFrom q n i) ≡ n
@@ -49,3 +52,11 @@ module _ (q : List ℕ) (n : ℕ) (h : 4 * n ≤ length q) where
       (λ i l. sym (label-read (take (4 * n) q) i l (be32 q (4 * i)) (sym (front-read i (omega (arith, front-count)))))
       ∙ label-read q i (omega (arith, front-count, label-count q)) (be32 q (4 * i)) refl
       ∙ sym (getD-take n (labelsOf q) i 0 (omega (arith, front-count))))
+
+-- a query written for these labels has these labels
+pub labels-back : (k : List ℕ) → ((i : ℕ) → i < length k → getD k i 0 < 2 ^ 32) → labelsOf (beWords k) ≡ k
+labels-back k small =
+    let count : length (labelsOf (beWords k)) ≡ length k = omega (arith, label-count (beWords k), words-length k) in
+    ext-getD 0 (labelsOf (beWords k)) k count (λ i h.
+    let l : i < length k = omega arith in
+    sym (label-read (beWords k) i h (getD k i 0) (sym (be-words k [] i l (small i l)) ∙ ap (λ (b : List ℕ). be32 b (4 * i)) (append-nil (beWords k)))))

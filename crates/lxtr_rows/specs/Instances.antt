@@ -14,7 +14,7 @@ use lib.ListN.{length, take, drop, getD, replicate}
 use lib.Seq.{take-append-seam}
 use Rattle.lxtr_spec.specs.Labels.{labelsOf, Pair}
 use Rattle.lxtr_spec.specs.Image.{magic, slotCount, parent, valueNumber}
-use Rattle.lxtr_spec.specs.Refusals.{usedCount, isEnd, checkOf}
+use Rattle.lxtr_spec.specs.Refusals.{usedCount, imageRefusal, isEnd, checkOf}
 use Rattle.lxtr_spec.specs.HighestValues.{HighestAnswer, highestOf}
 use Rattle.lxtr_spec.specs.Searches.{ExactAnswer, LongestAnswer, ProbeAnswer, exactOf, prefixesOf, longestOf, probeOf}
 use Rattle.lxtr_spec.specs.Completions.{CompletionAnswer, completionOf}
@@ -371,47 +371,47 @@ same-highest : (a b : HighestAnswer) → a .refusal ≡ b .refusal → a .value 
 same-highest a b k v = λ i. record { refusal = k i; value = v i }
 
 module _ (o : Operations) (meets : (b : List ℕ) → HighestValue o b) where
-  -- Over an image no other answer meets the demand.
-  pub only-highest : (b : List ℕ) → IsImage b → o .highest b ≡ highestOf b
-  only-highest b (d, image) = let (h, is) = meets b .some-highest d image in meets b .answer d h image is ∙ sym (highest-value b .answer d h image is)
-
-  -- And over any bytes, if the program's check refuses them by the number that document 01 gives, or not at all.
-  pub only-highest-refusal : (b : List ℕ) → o .check b .refusal ≡ checkOf b .refusal → o .highest b ≡ highestOf b
-  only-highest-refusal b e = go (ℕ-discrete (checkOf b .refusal) 0)
+  -- No other answer meets the demand, whatever the bytes are.
+  pub only-highest : (b : List ℕ) → o .highest b ≡ highestOf b
+  unfolding checkOf
+  only-highest b = go (ℕ-discrete (imageRefusal b) 0)
     where
-      go : Dec (checkOf b .refusal ≡ 0) → o .highest b ≡ highestOf b
-      go (yes z) = only-highest b (demand3 b .passes .0 z)
+      go : Dec (imageRefusal b ≡ 0) → o .highest b ≡ highestOf b
+      go (yes z) =
+          let (d, image) = demand3 b .passes .0 z in
+          let (h, is) = meets b .some-highest d image in
+          meets b .answer d h image is ∙ sym (highest-value b .answer d h image is)
       go (no n) =
-          let mine = meets b .refusal ∙ e in
+          let mine = meets b .refusal in
           let theirs = highest-value b .refusal in
           same-highest (o .highest b) (highestOf b) (mine ∙ sym theirs) (meets b .refused (λ z. n (sym mine ∙ z)) ∙ sym (highest-value b .refused (λ z. n (sym theirs ∙ z))))
 
-  value-of : (b : List ℕ) → IsImage b → o .highest b .value ≡ highestOf b .value
-  value-of b image = ap (λ (a : HighestAnswer). a .value) (only-highest b image)
+  value-of : (b : List ℕ) → o .highest b .value ≡ highestOf b .value
+  value-of b = ap (λ (a : HighestAnswer). a .value) (only-highest b)
 
   -- two values that are both said to be the highest
-  same-value : (b : List ℕ) (v w : ℕ) → IsImage b → highestOf b .value ≡ some v → o .highest b .value ≡ some w → v ≡ w
+  same-value : (b : List ℕ) (v w : ℕ) → highestOf b .value ≡ some v → o .highest b .value ≡ some w → v ≡ w
   unfolding or-1
-  same-value b v w image e f = ap or-1 (sym e ∙ sym (value-of b image) ∙ f)
+  same-value b v w e f = ap or-1 (sym e ∙ sym (value-of b) ∙ f)
 
   -- So these fail: the value of the last end, on P11; the number of pairs less one, on P11 with value 300; the same value for all
   -- images that have one; a value where there is no pair, on P1; and a value beside a refusal.
   pub last-end-fails : ((b : List ℕ) → IsImage b → o .highest b .value ≡ lastEnd b (slotCount b)) → ⊥
-  last-end-fails same = omega (arith, same-value p11 2 0 p11-is-image (values11 .0) (same p11 p11-is-image ∙ values11 .1))
+  last-end-fails same = omega (arith, same-value p11 2 0 (values11 .0) (same p11 p11-is-image ∙ values11 .1))
 
   pub pairs-less-one-fail : ((b : List ℕ) → IsImage b → checkOf b .pairs ≢ 0 → o .highest b .value ≡ some (checkOf b .pairs - 1)) → ⊥
   pairs-less-one-fail same =
       let is = same p11-300 p11-300-is-image (λ e. omega (arith, e, values11-300 .1)) in
-      omega (arith, same-value p11-300 300 (checkOf p11-300 .pairs - 1) p11-300-is-image (values11-300 .0) is, values11-300 .1)
+      omega (arith, same-value p11-300 300 (checkOf p11-300 .pairs - 1) (values11-300 .0) is, values11-300 .1)
 
   pub constant-highest-fails : (v : ℕ) → ((b : List ℕ) → IsImage b → checkOf b .pairs ≢ 0 → o .highest b .value ≡ some v) → ⊥
   constant-highest-fails v same =
       let is = same p11 p11-is-image (λ e. omega (arith, e, p11-counts)) in
       let other = same p11-300 p11-300-is-image (λ e. omega (arith, e, values11-300 .1)) in
-      omega (arith, same-value p11 2 v p11-is-image (values11 .0) is, same-value p11-300 300 v p11-300-is-image (values11-300 .0) other)
+      omega (arith, same-value p11 2 v (values11 .0) is, same-value p11-300 300 v (values11-300 .0) other)
 
   pub value-of-none-fails : (v : ℕ) → ((b : List ℕ) → IsImage b → checkOf b .pairs ≡ 0 → o .highest b .value ≡ some v) → ⊥
-  value-of-none-fails v same = let image = more-images .0 in Option·none-ne-some v (sym (values1 .0) ∙ sym (value-of p1 image) ∙ same p1 image (values1 .1))
+  value-of-none-fails v same = Option·none-ne-some v (sym (values1 .0) ∙ sym (value-of p1) ∙ same p1 (more-images .0) (values1 .1))
 
   pub refused-value-fails : (b : List ℕ) (v : ℕ) → o .highest b .refusal ≢ 0 → o .highest b .value ≡ some v → ⊥
   refused-value-fails b v refuses e = Option·none-ne-some v (sym (meets b .refused refuses) ∙ e)

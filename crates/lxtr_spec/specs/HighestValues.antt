@@ -3,7 +3,7 @@
 use Prim.Native.Nat.{ℕ, zero, suc}
 use mathlib.Core.List.{List}
 use mathlib.Core.Option.{Option, some, none}
-use mathlib.Core.Bool.{Bool, true, false, cond}
+use mathlib.Core.Bool.{cond}
 use lib.Dec.{ltb}
 use Rattle.lxtr_spec.specs.Image.{slotCount, valueNumber}
 use Rattle.lxtr_spec.specs.Refusals.{imageRefusal, isEnd, unlessRefused}

@@ -1,5 +1,4 @@
--- How a text is cut into pieces and a rest, said of the set of pairs d and without a search. Only statements, and the program that
--- they are about; the proofs are in Laws/.
+-- How a text is cut into pieces and a rest, said of the set of pairs d and without a search. Only definitions; the proofs are in Laws/.
 use Prim.Native.Nat.{ℕ, _≤_}
 use mathlib.Core.Path.{_≡_}
 use mathlib.Core.Logic.{_⊎_}

@@ -10,6 +10,10 @@ pub mod CutTexts
 pub mod TableRefusals
 -- The demand.
 pub mod Typing
+pub mod Outcomes
 -- What two calls answer.
 pub mod TwoCalls
 pub mod Parts
+pub mod ManyParts
+-- The forms that C has.
+pub mod HostForms

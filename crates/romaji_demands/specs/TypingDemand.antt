@@ -1,17 +1,18 @@
 -- What typing and finishing have to answer, of any program, in terms of the set of pairs of the image and the kana table.
--- Only the statements; that the definitions meet them is `typing-demand` in Laws/Typing.antt, and `typing-in-parts` and
--- `finishing-after-typing` in Laws/Parts.antt.
+-- Only the program that the statements are about, and the statements; that the definitions meet them is `typing-demand` in
+-- Laws/Typing.antt, `typing-in-parts` and `finishing-after-typing` in Laws/Parts.antt, and `typing-in-many-parts` and
+-- `finishing-after-parts` in Laws/ManyParts.antt.
 use Prim.Native.Nat.{ℕ, suc, _+_, _*_, _≤_, _<_, _^_}
 use mathlib.Core.Path.{_≡_}
 use mathlib.Core.Logic.{_≢_, _⊎_}
-use mathlib.Core.List.{List, [], _++_}
+use mathlib.Core.List.{List, [], _∷_, _++_}
 use mathlib.Core.Option.{none}
 use lib.ListN.{length, take, drop, getD}
-use Rattle.lxtr_spec.specs.Refusals.{imageRefusal}
+use Rattle.lxtr_spec.specs.Refusals.{imageRefusal, unlessRefused}
 use Rattle.lxtr_spec.specs.Sets.{PairSet, Has, ImageOf}
 use Rattle.lxtr_spec.specs.Meaning.{Longer}
 use Rattle.romaji_spec.specs.KanaTables.{textAt}
-use Rattle.romaji_spec.specs.Pieces.{Piece, outgoing}
+use Rattle.romaji_spec.specs.Pieces.{maxKept, Piece, outgoing}
 use Rattle.romaji_spec.specs.Typing.{keptIn, TypingAnswer, refusedBy, wentOut, typeOf, finishOf}
 use Rattle.romaji_spec.specs.declared.State.{State}
 use Rattle.romaji_demands.specs.Cuts.{CutInto, OneCut, TypedAs, Never, FinishedAs}
@@ -61,6 +62,9 @@ textOf s typed = keptIn s ++ typed
 pub record TypingDemand (o : Program) : Type 0 where
   -- Every image and table is refused by a number or is ready; state, text and room do not count here.
   pub decided : (b kana : List ℕ) → ((k : ℕ) × RefusedBy b kana k) ⊎ ((d : PairSet) × Ready b kana d)
+  -- Not both, and not by two numbers.
+  pub one-refusal : (b kana : List ℕ) (k j : ℕ) → RefusedBy b kana k → RefusedBy b kana j → k ≡ j
+  pub not-both : (b kana : List ℕ) (k : ℕ) (d : PairSet) → RefusedBy b kana k → Ready b kana d → ⊥
   -- A refusal leaves state and room as they are.
   pub refused : (b kana : List ℕ) (k : ℕ) → RefusedBy b kana k → (s : State) (typed room : List ℕ)
       → (o .type b kana s typed room ≡ refusedBy k s room) × (o .finish b kana s room ≡ refusedBy k s room)
@@ -68,6 +72,8 @@ pub record TypingDemand (o : Program) : Type 0 where
   pub some-cut : (b kana : List ℕ) (d : PairSet) → Ready b kana d → (t : List ℕ) → Bytes t
       → ((ps : List Piece) × (rest : List ℕ) × TypedAs d t ps rest) × ((ps : List Piece) × FinishedAs d t ps [])
   pub one-cut : (b kana : List ℕ) (d : PairSet) → Ready b kana d → OneCut d (Longer d) × OneCut d Never
+  -- the rest fits into a state;
+  pub few-kept : (b kana : List ℕ) (d : PairSet) → Ready b kana d → (t : List ℕ) (ps : List Piece) (rest : List ℕ) → TypedAs d t ps rest → length rest ≤ maxKept
   -- and what goes out and what is kept is that cutting's.
   pub typed : (b kana : List ℕ) (d : PairSet) → Ready b kana d → (s : State) (typed room : List ℕ) → Bytes (textOf s typed)
       → Answers d (Longer d) kana s (textOf s typed) room (o .type b kana s typed room)
@@ -96,7 +102,29 @@ abbrev pub TypingInParts : Program → Type 0
 TypingInParts o = (b kana : List ℕ) (s : State) (t u room : List ℕ) → Bytes (textOf s (t ++ u))
     → (let a = o .type b kana s t room in AtOnce s room a (o .type b kana (a .answer .state) u (roomLeft a)) (o .type b kana s (t ++ u) room))
 
+-- So it is for any number of parts: the text of all of them, the answer of two calls as one whether or not one was refused, and the answer
+-- of all calls as one, where each gets the state and the room that the one before left. (After the last part nothing more is typed.)
+unfoldable pub allOf : List (List ℕ) → List ℕ
+allOf [] = []
+allOf (t ∷ ts) = t ++ allOf ts
+
+unfoldable pub asOne : State → List ℕ → TypingAnswer → TypingAnswer → TypingAnswer
+asOne s room a c =
+    unlessRefused (a .answer .refusal) (unlessRefused (c .answer .refusal) (together a c) (refusedBy (c .answer .refusal) s room)) (refusedBy (a .answer .refusal) s room)
+
+unfoldable pub partsTyped : Program → List ℕ → List ℕ → State → List (List ℕ) → List ℕ → TypingAnswer
+partsTyped o b kana s [] room = o .type b kana s [] room
+partsTyped o b kana s (t ∷ ts) room = let a = o .type b kana s t room in asOne s room a (partsTyped o b kana (a .answer .state) ts (roomLeft a))
+
+abbrev pub TypingInManyParts : Program → Type 0
+TypingInManyParts o = (b kana : List ℕ) (ts : List (List ℕ)) (s : State) (room : List ℕ) → Bytes (textOf s (allOf ts)) → partsTyped o b kana s ts room ≡ o .type b kana s (allOf ts) room
+
 -- Finishing after typing is finishing the whole text: what both wrote is what one cutting of the whole text without a rest says.
 abbrev pub FinishingAfterTyping : Program → Type 0
 FinishingAfterTyping o = (b kana : List ℕ) (d : PairSet) → Ready b kana d → (s : State) (t room : List ℕ) → Bytes (textOf s t)
     → (let a = o .type b kana s t room in (whole : TypingAnswer) → Answers d Never kana s (textOf s t) room whole → AtOnce s room a (o .finish b kana (a .answer .state) (roomLeft a)) whole)
+
+-- The same after any number of parts.
+abbrev pub FinishingAfterParts : Program → Type 0
+FinishingAfterParts o = (b kana : List ℕ) (d : PairSet) → Ready b kana d → (s : State) (ts : List (List ℕ)) (room : List ℕ) → Bytes (textOf s (allOf ts))
+    → (let a = partsTyped o b kana s ts room in (whole : TypingAnswer) → Answers d Never kana s (textOf s (allOf ts)) room whole → AtOnce s room a (o .finish b kana (a .answer .state) (roomLeft a)) whole)

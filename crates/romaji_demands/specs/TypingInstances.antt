@@ -1,51 +1,33 @@
 -- What the demand rules out, for every possible program. Here o is any program that meets the demand, whatever else it does: for every
 -- image, table, state, text of bytes and room it answers what the definitions answer. So the programs named below fail.
-use Prim.Native.Nat.{ℕ, zero, suc, _*_, _≤_, _<_, _^_}
+use Prim.Native.Nat.{ℕ, zero, suc, _*_, _<_, _^_}
 use native.Mathlib.Omega.{arith}
-use native.Mathlib.Decide.{decLt}
-use mathlib.Core.Path.{_≡_, refl, sym, ap, _∙_}
-use mathlib.Core.Logic.{_≢_, ⊎-elim}
+use mathlib.Core.Path.{_≡_, refl, ap, _∙_}
+use mathlib.Core.Logic.{_≢_, _⊎_, ⊎-elim}
 use mathlib.Core.List.{List, [], _∷_, _++_}
 use lib.ListN.{length, drop, getD, replicate}
 use Rattle.lxtr_spec.specs.Numbers.{beWords}
-use Rattle.lxtr_spec.specs.Sets.{PairSet}
 use Rattle.lxtr_spec.specs.Samples.{p3}
-use Rattle.romaji_spec.specs.Pieces.{Piece, outgoing}
 use Rattle.romaji_spec.specs.Typing.{keptIn, stateOf, TypingAnswer, refusedBy, wentOut, typeOf, finishOf}
 use Rattle.romaji_spec.specs.declared.State.{State}
-use Rattle.romaji_demands.specs.Cuts.{CutInto}
-use Rattle.romaji_demands.specs.TypingDemand.{Program, Bytes, Answers, textOf, TypingDemand}
+use Rattle.romaji_demands.specs.TypingDemand.{Program, defined, Bytes, textOf, TypingDemand}
 use Rattle.romaji_demands.specs.Laws.Typing.{typing-demand}
+use Rattle.romaji_demands.specs.Laws.Outcomes.{Refusal, GoneOut, outcome, one-answer, type-cut, finish-cut, type-demanded, finish-demanded}
 use Rattle.romaji_demands.specs.Laws.Parts.{kept-same}
 use Rattle.romaji_demands.specs.TypingRows.{romaji-computing}
 use Rattle.romaji_demands.specs.TypingExamples.{kana3}
-
--- one cutting of the text leaves one answer
-one-answer : {d : PairSet} {Waits : List ℕ → Type 0} {kana : List ℕ} {s : State} {text room : List ℕ} {a c : TypingAnswer} (ps : List Piece) (rest : List ℕ) → CutInto d Waits text ps rest
-    → Answers d Waits kana s text room a → Answers d Waits kana s text room c → a ≡ c
-one-answer {d} {Waits} {kana} {s} {text} {room} {a} {c} ps rest is x y = go (decLt (length room) (4 * length (outgoing kana ps)))
-  where
-    go : Dec (length room < 4 * length (outgoing kana ps)) → a ≡ c
-    go (yes short) = x .no-room ps rest is short ∙ sym (y .no-room ps rest is short)
-    go (no enough) = let h : 4 * length (outgoing kana ps) ≤ length room = omega arith in x .goes-out ps rest is h ∙ sym (y .goes-out ps rest is h)
 
 -- state and room as before the call
 abbrev pub Unchanged : State → List ℕ → TypingAnswer → Type 0
 Unchanged s room a = (a .answer .state ≡ s) × (a .room ≡ room)
 
-refused-unchanged : {s : State} {room : List ℕ} {a : TypingAnswer} (k : ℕ) → a ≡ refusedBy k s room → Unchanged s room a
-unfolding refusedBy
-refused-unchanged k e = (ap (λ (x : TypingAnswer). x .answer .state) e, ap (λ (x : TypingAnswer). x .room) e)
-
--- a cutting that is refused is refused for want of room
-answer-unchanged : {d : PairSet} {Waits : List ℕ → Type 0} {kana : List ℕ} {s : State} {text room : List ℕ} {a : TypingAnswer} (ps : List Piece) (rest : List ℕ) → CutInto d Waits text ps rest
-    → Answers d Waits kana s text room a → a .answer .refusal ≢ 0 → Unchanged s room a
-unfolding wentOut
-answer-unchanged {d} {Waits} {kana} {s} {text} {room} {a} ps rest is x refuses = go (decLt (length room) (4 * length (outgoing kana ps)))
-  where
-    go : Dec (length room < 4 * length (outgoing kana ps)) → Unchanged s room a
-    go (yes short) = refused-unchanged 29 (x .no-room ps rest is short)
-    go (no enough) = absurd (refuses (ap (λ (y : TypingAnswer). y .answer .refusal) (x .goes-out ps rest is (omega arith))))
+-- a refused answer is that of a refusal
+refused-unchanged : {Rest : List ℕ → Type 0} {s : State} {room : List ℕ} {a : TypingAnswer} → Refusal s room a ⊎ GoneOut Rest room a → a .answer .refusal ≢ 0 → Unchanged s room a
+unfolding refusedBy wentOut
+refused-unchanged {Rest} {s} {room} {a} is refuses = ⊎-elim
+    (λ (k, n, e). (ap (λ (x : TypingAnswer). x .answer .state) e, ap (λ (x : TypingAnswer). x .room) e))
+    (λ (out, rest, fits, holds, e). absurd (refuses (ap (λ (x : TypingAnswer). x .answer .refusal) e)))
+    is
 
 -- ---- texts over P3: `n`, `na`, and `a` alone
 
@@ -100,41 +82,20 @@ n-finished = refl
 -- ---- programs
 
 module _ (o : Program) (meets : TypingDemand o) where
-  -- No other answer, state or room meets the demand.
-  pub only-type : (b kana : List ℕ) (s : State) (typed room : List ℕ) → Bytes (textOf s typed) → o .type b kana s typed room ≡ typeOf b kana s typed room
-  only-type b kana s typed room small = ⊎-elim
-      (λ (k, r). meets .refused b kana k r s typed room .0 ∙ sym (typing-demand .refused b kana k r s typed room .0))
-      (λ (d, ready).
-      let (ps, rest, is) = typing-demand .some-cut b kana d ready (textOf s typed) small .0 in
-      one-answer ps rest is (meets .typed b kana d ready s typed room small) (typing-demand .typed b kana d ready s typed room small))
-      (typing-demand .decided b kana)
+  -- No other answer, state or room meets the demand, and a refused call that changes the state or the room fails.
+  module _ (b kana : List ℕ) (s : State) (typed room : List ℕ) (small : Bytes (textOf s typed)) where
+    pub only-type : o .type b kana s typed room ≡ typeOf b kana s typed room
+    only-type = one-answer (type-cut b kana (textOf s typed) small) (type-demanded o meets b kana s room typed small) (type-demanded defined typing-demand b kana s room typed small)
 
-  pub only-finish : (b kana : List ℕ) (s : State) (room : List ℕ) → Bytes (textOf s []) → o .finish b kana s room ≡ finishOf b kana s room
-  only-finish b kana s room small = ⊎-elim
-      (λ (k, r). meets .refused b kana k r s [] room .1 ∙ sym (typing-demand .refused b kana k r s [] room .1))
-      (λ (d, ready).
-      let (ps, is) = typing-demand .some-cut b kana d ready (textOf s []) small .1 in
-      one-answer ps [] is (meets .finished b kana d ready s room small) (typing-demand .finished b kana d ready s room small))
-      (typing-demand .decided b kana)
+    pub changing-type-fails : o .type b kana s typed room .answer .refusal ≢ 0 → (Unchanged s room (o .type b kana s typed room) → ⊥) → ⊥
+    changing-type-fails refuses changes = changes (refused-unchanged (outcome (type-cut b kana (textOf s typed) small) (type-demanded o meets b kana s room typed small)) refuses)
 
-  -- A refused call that changes the state or the room fails.
-  pub changing-type-fails : (b kana : List ℕ) (s : State) (typed room : List ℕ) → Bytes (textOf s typed) → o .type b kana s typed room .answer .refusal ≢ 0
-      → (Unchanged s room (o .type b kana s typed room) → ⊥) → ⊥
-  changing-type-fails b kana s typed room small refuses changes = changes (⊎-elim
-      (λ (k, r). refused-unchanged k (meets .refused b kana k r s typed room .0))
-      (λ (d, ready).
-      let (ps, rest, is) = typing-demand .some-cut b kana d ready (textOf s typed) small .0 in
-      answer-unchanged ps rest is (meets .typed b kana d ready s typed room small) refuses)
-      (typing-demand .decided b kana))
+  module _ (b kana : List ℕ) (s : State) (room : List ℕ) (small : Bytes (textOf s [])) where
+    pub only-finish : o .finish b kana s room ≡ finishOf b kana s room
+    only-finish = one-answer (finish-cut b kana (textOf s []) small) (finish-demanded o meets b kana s room small) (finish-demanded defined typing-demand b kana s room small)
 
-  pub changing-finish-fails : (b kana : List ℕ) (s : State) (room : List ℕ) → Bytes (textOf s []) → o .finish b kana s room .answer .refusal ≢ 0
-      → (Unchanged s room (o .finish b kana s room) → ⊥) → ⊥
-  changing-finish-fails b kana s room small refuses changes = changes (⊎-elim
-      (λ (k, r). refused-unchanged k (meets .refused b kana k r s [] room .1))
-      (λ (d, ready).
-      let (ps, is) = typing-demand .some-cut b kana d ready (textOf s []) small .1 in
-      answer-unchanged ps [] is (meets .finished b kana d ready s room small) refuses)
-      (typing-demand .decided b kana))
+    pub changing-finish-fails : o .finish b kana s room .answer .refusal ≢ 0 → (Unchanged s room (o .finish b kana s room) → ⊥) → ⊥
+    changing-finish-fails refuses changes = changes (refused-unchanged (outcome (finish-cut b kana (textOf s []) small) (finish-demanded o meets b kana s room small)) refuses)
 
   -- what it answers over P3
   over-3 : (kept typed : List ℕ) → Bytes (kept ++ typed) → o .type p3 kana3 (stateOf kept) typed blank ≡ typed3 kept typed

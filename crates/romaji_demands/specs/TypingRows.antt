@@ -12,6 +12,7 @@ use Rattle.romaji_spec.specs.Pieces.{maxKept, couldGrow, matched, matchedValue,
 use Rattle.romaji_spec.specs.Typing.{keptIn, stateOf, isValue, hasEmptyKey, tableRefusal, roomRefusal, TypingAnswer, refusedBy, wentOut, answered, convert, typeOf, finishOf}
 use Rattle.romaji_spec.specs.HostStates.{stateBytes, keptBytes, HostTyping, hostTyping, hostTypeOf, hostFinishOf}
 use Rattle.romaji_spec.specs.declared.State.{State}
+use Rattle.romaji_demands.specs.HostForms.{bytesOf}
 
 -- What is run, and what it gives. A state is given by the bytes that it keeps, room by its number of bytes, what goes out by its labels.
 pub data Example : Type 0 where
@@ -37,10 +38,6 @@ unwritten n = replicate n 0xFF
 -- room of n bytes after these labels went out
 abbrev after : List ℕ → ℕ → List ℕ
 after out n = beWords out ++ unwritten (n - 4 * length out)
-
--- the bytes of a state that keeps these bytes
-abbrev bytesOf : List ℕ → List ℕ
-bytesOf kept = stateBytes (stateOf kept)
 
 -- an answer without refusal, and one with
 abbrev goesOut : List ℕ → ℕ → List ℕ → TypingAnswer

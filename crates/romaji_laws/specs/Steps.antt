@@ -1,10 +1,10 @@
 -- The cutting of a text from one place to the next: it ends, keeps the text, or goes on after the piece at this place.
 -- A place inside a piece is passed over, so what follows a piece is cut like a text of its own.
-use Prim.Native.Nat.{ℕ, zero, suc, _-_, _≤_, _<_}
+use Prim.Native.Nat.{ℕ, zero, suc, _-_, _≤_}
 use native.Mathlib.Omega.{arith}
 use native.Mathlib.Nat.{not-suc-le-zero}
-use mathlib.Core.Path.{_≡_, refl, sym, ap, _∙_}
-use mathlib.Core.List.{List, [], _∷_, _++_}
+use mathlib.Core.Path.{_≡_, refl, ap, _∙_}
+use mathlib.Core.List.{List, [], _∷_}
 use mathlib.Core.Bool.{Bool, true, false, _&&_}
 use lib.ListN.{length, drop}
 use borrow.Author.Tests.{leb-true}
@@ -12,7 +12,7 @@ use Rattle.lxtr_laws.specs.Tests.{and-is-true}
 use Rattle.lxtr_spec.specs.Searches.{probeOf}
 use Rattle.lxtr_spec.specs.Numbers.{beWords}
 use lib.Dec.{leb}
-use Rattle.romaji_spec.specs.Pieces.{maxKept, couldGrow, Piece, pieceText, pieceAt, Cutting, onlyRest, withPiece, keptOr, cutAfter, cut}
+use Rattle.romaji_spec.specs.Pieces.{maxKept, couldGrow, pieceText, pieceAt, onlyRest, withPiece, keptOr, cutAfter, cut}
 
 module _ (keeping : Bool) (b : List ℕ) where
   -- the text is kept back

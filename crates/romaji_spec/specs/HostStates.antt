@@ -1,13 +1,13 @@
 -- The state and the answer as a host program in C has them: the state as bytes, the answer as one 64-bit number.
-use Prim.Native.Nat.{ℕ, _-_, _%_, _^_}
-use mathlib.Core.List.{List, [], _∷_, _++_}
+use Prim.Native.Nat.{ℕ, _%_, _^_}
+use mathlib.Core.List.{List, _∷_}
 use mathlib.Core.Bool.{false}
-use lib.ListN.{length, take, drop, replicate}
+use lib.ListN.{take, drop}
 use Rattle.lxtr_spec.specs.Numbers.{byteAt}
 use Rattle.lxtr_spec.specs.Refusals.{unlessRefused}
 use Rattle.lxtr_spec.specs.HostNumbers.{hostNumber, atFront}
 use Rattle.romaji_spec.specs.Pieces.{maxKept}
-use Rattle.romaji_spec.specs.Typing.{TypingAnswer, keptIn, stateOf, typeOf, finishOf}
+use Rattle.romaji_spec.specs.Typing.{TypingAnswer, stateOf, typeOf, finishOf}
 use Rattle.romaji_spec.specs.declared.State.{State}
 
 -- LXTR_ROMAJI_STATE_BYTES: the number of kept bytes, the kept bytes, zeros

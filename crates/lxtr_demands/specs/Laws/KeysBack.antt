@@ -1,15 +1,14 @@
 -- What is built reads back: over an image of the set of a key list's pairs, the check, exact and completion answer those keys.
 -- Demands 2 and 3 say what they answer over an image; the keys ascend, so each pair is listed once.
-use Prim.Native.Nat.{ℕ, _*_, zero, suc, _%_, _^_, _<_}
+use Prim.Native.Nat.{ℕ, zero, suc, _%_, _^_, _<_}
 use native.Mathlib.Omega.{arith}
 use mathlib.Core.Path.{_≡_, sym, ap, _∙_}
 use mathlib.Core.Logic.{_≢_}
-use mathlib.Core.List.{List, [], _∷_, append-nil, List·Memᴰ}
+use mathlib.Core.List.{List, [], _∷_, List·Memᴰ}
 use mathlib.Core.Option.{some, none}
 use mathlib.Core.Bool.{true}
 use lib.ListN.{getD, length}
-use lib.Seq.{ext-getD}
-use Rattle.lxtr_spec.specs.Numbers.{be32, beWords}
+use Rattle.lxtr_spec.specs.Numbers.{beWords}
 use Rattle.lxtr_spec.specs.Labels.{labelsOf, comesBefore, Pair}
 use Rattle.lxtr_spec.specs.Refusals.{unlessRefused, endCount, checkOf}
 use Rattle.lxtr_spec.specs.Searches.{searchRefusal, exactValue, exactOf}
@@ -20,7 +19,7 @@ use Rattle.lxtr_laws.specs.Members.{member-at}
 use Rattle.lxtr_laws.specs.Lengths.{words-length}
 use Rattle.lxtr_laws.specs.KeyOrder.{before-self}
 use Rattle.lxtr_laws.specs.StepFacts.{none-not-some}
-use Rattle.lxtr_laws.specs.QueryLabels.{label-count, label-read}
+use Rattle.lxtr_laws.specs.QueryLabels.{labels-back}
 use Rattle.lxtr_laws.specs.Sorted.{Sorted, sorted-weaker}
 use Rattle.lxtr_build_laws.specs.KeyListFacts.{Ascending, KeysRight}
 use Rattle.lxtr_build_laws.specs.KeyReading.{keys-length}
@@ -31,16 +30,7 @@ use Rattle.lxtr_demands.specs.Laws.Images.{image-passes, known-image}
 use Rattle.lxtr_demands.specs.Laws.Counts.{pairs-counted, listing-counted}
 use Rattle.lxtr_demands.specs.Laws.Demand3.{demand3}
 use Rattle.lxtr_demands.specs.Laws.Demand2.{exact-set, demand2}
-use Rattle.lxtr_laws.specs.ReadBack.{be-words}
 use Rattle.lxtr_demands.specs.Laws.BuiltImages.{scalar-small}
-
--- a query written for these labels has these labels
-pub labels-back : (k : List ℕ) → ((i : ℕ) → i < length k → getD k i 0 < 2 ^ 32) → labelsOf (beWords k) ≡ k
-labels-back k small =
-    let count : length (labelsOf (beWords k)) ≡ length k = omega (arith, label-count (beWords k), words-length k) in
-    ext-getD 0 (labelsOf (beWords k)) k count (λ i h.
-    let l : i < length k = omega arith in
-    sym (label-read (beWords k) i h (getD k i 0) (sym (be-words k [] i l (small i l)) ∙ ap (λ (b : List ℕ). be32 b (4 * i)) (append-nil (beWords k)))))
 
 -- keys in ascending order are sorted, so they differ
 ascending-sorted : (ps : List Pair) → Ascending ps → Sorted (λ p r. comesBefore (p .0) (r .0) ≡ true) ps

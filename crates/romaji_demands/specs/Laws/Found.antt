@@ -19,10 +19,10 @@ use Rattle.lxtr_spec.specs.Meaning.{LongestIn, Longer}
 use Rattle.lxtr_laws.specs.Tests.{and-is-true}
 use Rattle.lxtr_laws.specs.Lengths.{words-length}
 use Rattle.lxtr_laws.specs.StepFacts.{none-not-some}
+use Rattle.lxtr_laws.specs.QueryLabels.{labels-back}
 use Rattle.lxtr_demands.specs.Operations.{defined}
 use Rattle.lxtr_demands.specs.Demand2.{Searched, Answered}
 use Rattle.lxtr_demands.specs.Laws.Demand2.{demand2}
-use Rattle.lxtr_demands.specs.Laws.KeysBack.{labels-back}
 use Rattle.romaji_spec.specs.Pieces.{maxKept, couldGrow, Piece, matched, matchedValue, pieceBy, pieceAt, pieceText}
 use Rattle.romaji_demands.specs.Cuts.{NoKeyAt, PieceAt}
 use Rattle.romaji_demands.specs.TypingDemand.{Bytes}
@@ -38,13 +38,18 @@ module _ {b : List ℕ} {d : PairSet} (image : ImageOf b d) where
   answered : (r : List ℕ) → Bytes r → Answered defined b d (beWords r) r
   answered r small = subst (Answered defined b d (beWords r)) (labels-back r (λ i h. omega (arith, small i h))) (demand2 b d (beWords r) image (omega (arith, words-length r)))
 
+  -- a proper front part of a key has at least one label less than a key may have
+  pub front-length : (r : List ℕ) → Longer d r → length r ≤ maxKept
+  unfolding maxKept
+  front-length r l = omega (arith, image .keys .key-length (r ++ l .next ∷ l .rest) (l .value) (l .is), length-append r (l .next ∷ l .rest))
+
   pub grows : (r : List ℕ) → Bytes r → (couldGrow b r ≡ true) ↔ Longer d r
-  unfolding couldGrow maxKept
+  unfolding couldGrow
   grows r small =
       let longer = answered r small .probe-longer in
       let both = and-is-true (leb (length r) maxKept) (probeOf b (beWords r) .longer) in (
         λ e. longer .0 (both .0 e .1),
-        λ l. both .1 (le-leb (length r) maxKept (omega (arith, image .keys .key-length (r ++ l .next ∷ l .rest) (l .value) (l .is), length-append r (l .next ∷ l .rest))), longer .1 l),
+        λ l. both .1 (le-leb (length r) maxKept (front-length r l), longer .1 l),
       )
 
   -- n is the length of the longest key that is a front part of the text r, or 0 if there is none. (No key is longer than the limit, so

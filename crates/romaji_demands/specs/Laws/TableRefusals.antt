@@ -76,6 +76,12 @@ module _ (b kana : List ℕ) where
   refusal-above-0 k (table-short d l v image has short) e = omega (arith, e)
   refusal-above-0 k (empty-key d v image whole has) e = omega (arith, e)
 
+  pub one-refusal : (k j : ℕ) → RefusedBy b kana k → RefusedBy b kana j → k ≡ j
+  one-refusal k j r q = sym (refused-is k r) ∙ refused-is j q
+
+  pub not-both : (k : ℕ) (d : PairSet) → RefusedBy b kana k → Ready b kana d → ⊥
+  not-both k d r ready = refusal-above-0 k r (sym (refused-is k r) ∙ ready-passes d ready)
+
   abbrev Decision : Type 0
   Decision = ((k : ℕ) × RefusedBy b kana k) ⊎ ((d : PairSet) × Ready b kana d)
 

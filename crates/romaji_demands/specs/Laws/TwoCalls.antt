@@ -26,7 +26,7 @@ out-joined kana (p ∷ ps) qs = rw (out-joined kana ps qs) (sym (append-assoc (p
 
 -- where labels went out
 module _ (room out rest : List ℕ) where
-  left-over : roomLeft (wentOut room out rest) ≡ drop (4 * length out) room
+  pub left-over : roomLeft (wentOut room out rest) ≡ drop (4 * length out) room
   unfolding wentOut
   left-over = drop-at (beWords out) (drop (4 * length out) room) (4 * length out) (words-length out)
 

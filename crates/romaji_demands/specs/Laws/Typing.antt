@@ -1,6 +1,7 @@
 -- The demand, from its parts: the definitions cut the text in the one way in which it is cut, and answer what that cutting says.
 -- Typing and finishing are one proof, over which texts are kept back.
 use Prim.Native.Nat.{ℕ, _*_, _≤_, _<_}
+use native.Mathlib.Omega.{arith}
 use mathlib.Core.Path.{_≡_, sym, ap, ap₂, _∙_}
 use mathlib.Core.Logic.{⊎-elim}
 use mathlib.Core.List.{List, [], _++_}
@@ -17,8 +18,9 @@ use Rattle.romaji_spec.specs.declared.State.{State}
 use Rattle.romaji_demands.specs.Cuts.{CutInto, Never, FinishedAs}
 use Rattle.romaji_demands.specs.TypingDemand.{Ready, RefusedBy, Bytes, Answers, textOf, TypingDemand, defined}
 use Rattle.romaji_demands.specs.Laws.Cuts.{one-cut}
+use Rattle.romaji_demands.specs.Laws.Found.{front-length}
 use Rattle.romaji_demands.specs.Laws.CutTexts.{KeptBack, typing-keeps, finishing-keeps, cut-is}
-use Rattle.romaji_demands.specs.Laws.TableRefusals.{ready-passes, refused-is, refusal-above-0, decided}
+use Rattle.romaji_demands.specs.Laws.TableRefusals.{ready-passes, refused-is, refusal-above-0, one-refusal, not-both, decided}
 
 -- a cutting whose labels have room, and one whose labels have none
 module _ (kana : List ℕ) (s : State) (room : List ℕ) (c : Cutting) where
@@ -63,6 +65,8 @@ pub typing-demand : TypingDemand defined
 unfolding typeOf finishOf
 typing-demand = record {
   decided = decided;
+  one-refusal = one-refusal;
+  not-both = not-both;
   refused = λ b kana k r s typed room. (convert-refuses true b kana s typed room k r, convert-refuses false b kana s [] room k r);
   some-cut = λ b kana d ready t small.
       let typed = cut true b t in
@@ -71,6 +75,7 @@ typing-demand = record {
         (finished .pieces, no-rest d t (finished .pieces) (finished .rest) (cut-is (ready .image) (ready .no-empty) false Never (finishing-keeps b) t small)),
       );
   one-cut = λ b kana d ready. (one-cut d (Longer d) (ready .no-empty), one-cut d Never (ready .no-empty));
+  few-kept = λ b kana d ready t ps rest c. ⊎-elim (λ e. omega (arith, ap length e)) (front-length (ready .image) rest) (c .end);
   typed = λ b kana d ready s typed room small. answers true b kana s typed room d ready (Longer d) (typing-keeps (ready .image)) small;
   finished = λ b kana d ready s room small. answers false b kana s [] room d ready Never (finishing-keeps b) small;
 }
