@@ -102,8 +102,8 @@ abbrev pub TypingInParts : Program → Type 0
 TypingInParts o = (b kana : List ℕ) (s : State) (t u room : List ℕ) → Bytes (textOf s (t ++ u))
     → (let a = o .type b kana s t room in AtOnce s room a (o .type b kana (a .answer .state) u (roomLeft a)) (o .type b kana s (t ++ u) room))
 
--- So it is for any number of parts: the text of all of them, the answer of two calls as one whether or not one was refused, and the answer
--- of all calls as one, where each gets the state and the room that the one before left. (After the last part nothing more is typed.)
+-- So it is for any number of parts. The text of all of them; the answer of two calls as one, whether or not one was refused; and the
+-- answer of all calls as one, where each gets the state and the room that the one before left. (The last call types the empty text.)
 unfoldable pub allOf : List (List ℕ) → List ℕ
 allOf [] = []
 allOf (t ∷ ts) = t ++ allOf ts
