@@ -189,8 +189,8 @@ uint64_t lxtr_fault(const uint8_t *image, size_t image_length);
 /*
  * Finds the highest value of an image's keys: whether there is one, and the value as the number. Only an image without keys has
  * none. A table that the host keeps beside the image, with an entry for each value from 0 (such as a kana table), is long enough
- * for every key if it has an entry for this value. An image from another builder may have values far above its number of keys. Refusals: 1 to 12, in this
- * order. Each call checks the whole image.
+ * for every key if it has an entry for this value. An image from another builder may have values far above its number of keys.
+ * Refusals: 1 to 12, in this order. Each call checks the whole image.
  */
 uint64_t lxtr_highest(const uint8_t *image, size_t image_length);
 
@@ -280,7 +280,8 @@ uint64_t lxtr_romaji_type(const uint8_t *image, size_t image_length, const uint8
 
 /*
  * Ends a text: call it when nothing more will be typed. What is kept goes out by the same rules, but nothing is kept any more.
- * After n, U+3093 goes out. Afterwards the state is all zeros. Table, state, room, number and refusals are those of lxtr_romaji_type.
+ * After n, U+3093 goes out. Afterwards the state is all zeros. Table, state, room, number and refusals are those of
+ * lxtr_romaji_type.
  */
 uint64_t lxtr_romaji_finish(const uint8_t *image, size_t image_length, const uint8_t *kana, size_t kana_length,
                             uint8_t *state, size_t state_length, uint8_t *room, size_t room_length);

@@ -15,6 +15,7 @@ pub fn read_state(bytes: &[u8]) -> State
     ensures { λ r. ⌜ r ≡ stateOf (keptBytes (now (bytes .entry))) ⌝ }
 {
     if bytes.len() == 0 {
+        // there is nothing to keep
         return rest_kept(bytes, bytes, 0);
     }
     let most = lesser(MAX_KEPT, bytes.len() - 1);

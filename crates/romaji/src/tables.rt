@@ -35,7 +35,8 @@ fn text_end(kana: &[u8], at: usize) -> usize
     start + size
 }
 
-// How many places are kept for an image with this highest value: one for each text, and at least one.
+// How many places are kept for an image with this highest value: one for each text, and at least one. Any number in this range
+// gives the same answers; with more places, texts are found sooner.
 pub fn place_count(highest: Found) -> usize
     ensures { λ r. ⌜ (1 ≤ r) × (r ≤ mostPlaces) ⌝ }
 {
