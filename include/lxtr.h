@@ -14,8 +14,8 @@
  * query      labels as bytes, four to a label, the highest byte first: U+306A is 00 00 30 6A. Its length counts bytes. A number
  *            that the image does not list as a label matches nothing.
  * code       an image lists the labels of its keys; the code of a label is its place in that list, counted from 1. lxtr_build
- *            sorts the labels by the number of keys that contain them, highest first, and equal ones by their own number,
- *            smallest first. A key counts once, however often it contains the label.
+ *            sorts the labels by how often they occur in all keys together, highest first, and equal ones by their own number,
+ *            smallest first. A label that occurs twice in a key counts twice.
  * code order compares keys label by label, by the codes; a key comes before longer keys that begin with it. It is not
  *            dictionary order.
  *

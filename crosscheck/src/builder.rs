@@ -5,7 +5,7 @@ use crate::image::{CodeMap, Image, Node, TOP_BIT};
 use crate::keylist::{self, Key};
 use crate::rules::{Rules, Wrong};
 use std::cmp::Reverse;
-use std::collections::{BTreeMap, BTreeSet, HashMap, VecDeque};
+use std::collections::{BTreeMap, HashMap, VecDeque};
 
 /// Builds into `out`, and leaves `work` as document 01 says. Returns the length of the image.
 pub fn build(
@@ -63,17 +63,24 @@ pub fn image_of(rules: Rules, list: &[u8], words: usize) -> Result<Image, Refusa
 /// The used labels in code order.
 fn labels_by_frequency(rules: Rules, keys: &[Key]) -> Vec<u32> {
     let mut frequency: HashMap<u32, usize> = HashMap::new();
-    for key in keys {
-        let once: BTreeSet<u32> = key.iter().copied().collect();
-        let counted =
-            rules.either(once.into_iter().collect(), Wrong::EachOccurrenceCounts, key.clone());
-        for label in counted {
-            *frequency.entry(label).or_default() += 1;
-        }
+    for label in keys.iter().flat_map(|key| counted(rules, key)) {
+        *frequency.entry(label).or_default() += 1;
     }
     let mut labels: Vec<u32> = frequency.keys().copied().collect();
     let tie = |label: u32| rules.either(label, Wrong::TiesByLargerLabel, u32::MAX - label);
     labels.sort_by_key(|label| (Reverse(frequency[label]), tie(*label)));
+    labels
+}
+
+/// The labels of a key that count: all of them, each as often as it occurs.
+fn counted(rules: Rules, key: &Key) -> Vec<u32> {
+    let mut labels = key.clone();
+    if rules.breaks(Wrong::KeysCounted) {
+        labels.sort();
+    }
+    if rules.breaks(Wrong::KeysCounted) || rules.breaks(Wrong::NeighboursCountOnce) {
+        labels.dedup();
+    }
     labels
 }
 

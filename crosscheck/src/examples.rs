@@ -1,4 +1,5 @@
-//! P1 to P11 and the run examples of document 01, as tests of this implementation.
+//! P1 to P11 and the run examples of document 01, and the example of request 2 of
+//! document 02, as tests of this implementation.
 
 use crate::answers::{self, PLACE_WORDS};
 use crate::builder::image_of;
@@ -204,6 +205,15 @@ fn p11_code_order() {
         expected.extend(query_of(&[value]));
     }
     assert_eq!(records(&image)[..expected.len()], expected);
+}
+
+/// Document 02, request 2: every occurrence of a label counts.
+#[test]
+fn frequencies() {
+    let labels = |keys: &[&[u32]]| built(keys).map.labels;
+    assert_eq!(labels(&[&[0x61, 0x61], &[0x62], &[0x62, 0x63]]), [0x61, 0x62, 0x63]);
+    assert_eq!(labels(&[&[0x61], &[0x62, 0x63, 0x62]]), [0x62, 0x61, 0x63]);
+    assert_eq!(labels(&[&[0x61], &[0x61, 0x63], &[0x62; 3]]), [0x62, 0x61, 0x63]);
 }
 
 #[test]

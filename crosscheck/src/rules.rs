@@ -1,5 +1,5 @@
-//! The rules of document 01 and of romaji typing, request 1 of document 02, and
-//! wrong variants that break one rule each.
+//! The rules of document 01, with requests 1 (romaji typing) and 2 (frequencies)
+//! of document 02, and wrong variants that break one rule each.
 //!
 //! A comparison that cannot tell a wrong variant from the documents is too weak.
 //! Each variant is tested at the one place where its rule is written, with the
@@ -176,7 +176,8 @@ wrong_variants! {
     EqualKeysAccepted: "equal keys pass",
     BytesMayBeLeftOver: "bytes left over pass",
     // Building.
-    EachOccurrenceCounts: "each occurrence of a label counts, not each key",
+    KeysCounted: "a label counts once in each key that contains it",
+    NeighboursCountOnce: "equal labels next to each other in a key count once",
     TiesByLargerLabel: "among equal frequencies the larger label goes first",
     LabelLimit4094: "4,095 distinct labels are refused",
     PlacedBeforeCounted: "refusal 22 is tested before 20",

@@ -1,13 +1,13 @@
-// The frequency of each label: the number of keys that contain it.
+// The frequency of each label: how often it occurs in all keys together.
 ghost use mathlib.Core.Path.{_≡_};
 ghost use mathlib.Core.List.{[]};
-ghost use Prim.Native.Nat.{_+_, _≤_, _<_};
-ghost use lib.ListN.{length, take, getD, replicate};
-ghost use Rattle.lxtr_spec.specs.KeyLists.{maxKeys, keyLength, keyLabel, keyAt, pairsOf};
-ghost use Rattle.lxtr_spec.specs.CodeMaps.{contains, labelsUsed};
+ghost use Prim.Native.Nat.{_+_, _^_, _≤_, _<_};
+ghost use lib.ListN.{length, getD, replicate};
+ghost use Rattle.lxtr_spec.specs.KeyLists.{keyAt, pairsOf};
+ghost use Rattle.lxtr_spec.specs.CodeMaps.{labelsUsed};
 ghost use Rattle.lxtr_build_laws.specs.KeyListFacts.{WholeKey, KeysPassed};
 ghost use Rattle.lxtr_build_laws.specs.CodeTables.{Rising, placeIn};
-ghost use Rattle.lxtr_codes.specs.LabelCounting.{Countable, countOnce, KeyCounted, Counted};
+ghost use Rattle.lxtr_codes.specs.LabelCounting.{Countable, countOne, KeyCounted, Counted};
 use crate::guesses::find_guessed;
 use lxtr_keys::KEYS_AT;
 use lxtr_keys::key_count;
@@ -15,33 +15,13 @@ use lxtr_keys::key_label;
 use lxtr_keys::key_length;
 use lxtr_keys::next_key;
 
-// Whether label j of the key at `at` also occurs earlier in that key.
-fn stands_earlier(keys: &[u8], at: usize, j: usize) -> bool
-    requires { ⌜ WholeKey (now keys) at ⌝ }
-    requires { ⌜ j < keyLength (now keys) at ⌝ }
-    ensures { λ r. ⌜ r ≡ contains (take j (keyAt (now (keys .entry)) at)) (keyLabel (now (keys .entry)) at j) ⌝ }
-{
-    let label = key_label(keys, at, j);
-    let mut k: usize = 0;
-    while k < j {
-        if key_label(keys, at, k) == label {
-            return true;
-        }
-        k += 1;
-    }
-    false
-}
-
-// Counts one label of a key. A key counts a label once, so a label that occurs earlier in the key (`again`) is not counted.
-fn count_label(labels: &[u32], guesses: &[u32], counts: &mut [u32], label: u32, again: bool)
+// Counts one label of a key.
+fn count_label(labels: &[u32], guesses: &[u32], counts: &mut [u32], label: u32)
     requires { ⌜ Rising (now labels) ⌝ }
     requires { ⌜ placeIn (now labels) label < length (now counts) ⌝ }
-    requires { ⌜ getD (now counts) (placeIn (now labels) label) 0 ≤ maxKeys + 1 ⌝ }
-    ensures { λ _. ⌜ now (counts .exit) ≡ countOnce (now (labels .entry)) again label (now (counts .entry)) ⌝ }
+    requires { ⌜ getD (now counts) (placeIn (now labels) label) 0 + 1 < 2 ^ 32 ⌝ }
+    ensures { λ _. ⌜ now (counts .exit) ≡ countOne (now (labels .entry)) label (now (counts .entry)) ⌝ }
 {
-    if again {
-        return;
-    }
     let i = find_guessed(labels, guesses, label);
     counts[i] += 1;
 }
@@ -56,9 +36,8 @@ fn count_key(keys: &[u8], at: usize, labels: &[u32], guesses: &[u32], counts: &m
     let len = key_length(keys, at);
     let mut j: usize = 0;
     while j < len {
-        let again = stands_earlier(keys, at, j);
         let label = key_label(keys, at, j);
-        count_label(labels, guesses, counts, label, again);
+        count_label(labels, guesses, counts, label);
         j += 1;
     }
 }

@@ -1,7 +1,7 @@
 // The code map of a key list, as three tables: the labels that the keys use, in ascending order; the code of each; and their
 // places in code order.
 mod labels; // the labels
-mod counts; // how many keys contain each
+mod counts; // how often each occurs
 pub mod guesses; // a label looked up by a guess, also for lxtr_place
 mod ranks; // their order and their codes
 pub mod rising; // rising numbers: the labels here, and the codes of children in lxtr_place

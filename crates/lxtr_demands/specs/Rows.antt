@@ -19,7 +19,7 @@ use Rattle.lxtr_spec.specs.Searches.{queryRefusal, searchRefusal, exactValue, e
 use Rattle.lxtr_spec.specs.Completions.{entryPairs, listFrom, pairsAt, pairsBelow, recordOf, recordsOf, fitting, listingOf, listedIn, completionAnswer, written, completionRefusal, completionOf}
 use Rattle.lxtr_spec.specs.HostNumbers.{hostNumber, valueNumbered, checkNumber, exactNumber, probeNumber, longestNumber, placeNumber, faultNumbered, faultNumber, highestNumber, placeWords, alternately, atFront, placesAfter, prefixesNumber, hostPrefixesOf, completionNumber, hostCompletionOf, builtNumber, hostBuildOf}
 use Rattle.lxtr_spec.specs.KeyLists.{listVersion, keyCount, keyLength, keyLabel, nextKey, keyLabels, keyAt, keysFrom, pairsOf, noScalarAt, notAbove, keyRefusal, keysRefusal, listRefusal}
-use Rattle.lxtr_spec.specs.CodeMaps.{insert, insertAll, labelsUsed, contains, frequency, goesBefore, rankIn, ranked, mapOf, codeIn, labelWith}
+use Rattle.lxtr_spec.specs.CodeMaps.{insert, insertAll, labelsUsed, occurrences, frequency, goesBefore, rankIn, ranked, mapOf, codeIn, labelWith}
 use Rattle.lxtr_spec.specs.Placing.{baseAt, checkAt, isTakenFrom2, isFree, fits, firstFitFrom, firstFit, nextCode, childCodes, below, endValue, putChild, putChildren, putParent, settle, intoEach, place}
 use Rattle.lxtr_spec.specs.Builds.{headerBytes, mapBytes, imageBytes, slotsUsed, isChild, childBy, childrenOf, childrenIn, offsetsFrom, imageIn, slotsIn, placedIn, withRoom, fromPlaced, fromLabels, fromKeys, outcomeOf, answered, workAfter, buildOf}
 use Rattle.lxtr_spec.specs.Samples.{p1, p2, nodes3, offsets3, children3, labels3, p3, p7, p8-check, p8-slot, p9-labels, p9-longer, p10, p11, keyRecords, keyList}
@@ -127,5 +127,5 @@ AllHold es = tables.AllHold Holds es
 
 -- every definition that a row runs: to unfold this name is to unfold them all
 unfoldable pub computing : Unit {0}
-unfolding anyBelow countBelow firstFrom firstBelow le32 be32 leBytes beBytes leWords beWords isScalar maxLabels labelsFrom labelsOf slotUnder codeUnder magic version slotCount childCount mapLength baseWord checkWord isLeaf hasLeaf parent hasParent base valueNumber slotFrom codeTo offset child listWidth mapVersion labelCount labelAt labelOfCode codeFrom codeOf refuseIf firstRefusal unlessRefused tooShort byteDiffers magicDiffers versionWrong reservedSet sizesWrong lengthWrong mapWrong offsetEndsWrong headerRefusal sameLabel labelWrong labelsWrong isUsedFrom2 isUsed ownCode bothZero usedSlotWrong endExists flagWrong slotWrong slotsWrong offsetFalls usedCount entryWrong codeNotAbove entryWrongIn entriesWrong childless rootWrong listsWrong reaches unreachable someUnreachable bodyRefusal imageRefusal isEnd endCount checkOf faultIf labelFault slotFault offsetFault entryFaultOf entryFault isEntry unlisted unlistedFault childlessFault listFault reachFault faultBy faultOf larger highestBelow highestOf step stepBy walk walkWithin leafValue valueAt valueReached valueOf longerAt queryRefusal searchRefusal exactValue exactOf lengthMatch matchAt matches prefixMatches prefixesAnswer prefixesOf lastLength longestLength longestOf probeAnswer probeAt probeOf concatFrom entryPairs listFrom pairsAt pairsBelow recordOf recordsOf fitting listingOf listedIn completionAnswer written completionRefusal completionOf hostNumber valueNumbered checkNumber exactNumber probeNumber longestNumber placeNumber faultNumbered faultNumber highestNumber placeWords alternately atFront placesAfter prefixesNumber hostPrefixesOf completionNumber hostCompletionOf builtNumber hostBuildOf comesBefore listVersion keyCount keyLength keyLabel nextKey keyLabels keyAt keysFrom pairsOf noScalarAt notAbove keyRefusal keysRefusal listRefusal insert insertAll labelsUsed contains frequency goesBefore rankIn ranked mapOf codeIn labelWith baseAt checkAt isTakenFrom2 isFree fits firstFitFrom firstFit nextCode childCodes below endValue putChild putChildren putParent settle intoEach place headerBytes mapBytes imageBytes slotsUsed isChild childBy childrenOf childrenIn offsetsFrom imageIn slotsIn placedIn withRoom fromPlaced fromLabels fromKeys outcomeOf answered workAfter buildOf keyRecords keyList p1 p2 nodes3 offsets3 children3 labels3 p3 p7 p8-check p8-slot p9-labels p9-longer p10 p11
+unfolding anyBelow countBelow firstFrom firstBelow le32 be32 leBytes beBytes leWords beWords isScalar maxLabels labelsFrom labelsOf slotUnder codeUnder magic version slotCount childCount mapLength baseWord checkWord isLeaf hasLeaf parent hasParent base valueNumber slotFrom codeTo offset child listWidth mapVersion labelCount labelAt labelOfCode codeFrom codeOf refuseIf firstRefusal unlessRefused tooShort byteDiffers magicDiffers versionWrong reservedSet sizesWrong lengthWrong mapWrong offsetEndsWrong headerRefusal sameLabel labelWrong labelsWrong isUsedFrom2 isUsed ownCode bothZero usedSlotWrong endExists flagWrong slotWrong slotsWrong offsetFalls usedCount entryWrong codeNotAbove entryWrongIn entriesWrong childless rootWrong listsWrong reaches unreachable someUnreachable bodyRefusal imageRefusal isEnd endCount checkOf faultIf labelFault slotFault offsetFault entryFaultOf entryFault isEntry unlisted unlistedFault childlessFault listFault reachFault faultBy faultOf larger highestBelow highestOf step stepBy walk walkWithin leafValue valueAt valueReached valueOf longerAt queryRefusal searchRefusal exactValue exactOf lengthMatch matchAt matches prefixMatches prefixesAnswer prefixesOf lastLength longestLength longestOf probeAnswer probeAt probeOf concatFrom entryPairs listFrom pairsAt pairsBelow recordOf recordsOf fitting listingOf listedIn completionAnswer written completionRefusal completionOf hostNumber valueNumbered checkNumber exactNumber probeNumber longestNumber placeNumber faultNumbered faultNumber highestNumber placeWords alternately atFront placesAfter prefixesNumber hostPrefixesOf completionNumber hostCompletionOf builtNumber hostBuildOf comesBefore listVersion keyCount keyLength keyLabel nextKey keyLabels keyAt keysFrom pairsOf noScalarAt notAbove keyRefusal keysRefusal listRefusal insert insertAll labelsUsed occurrences frequency goesBefore rankIn ranked mapOf codeIn labelWith baseAt checkAt isTakenFrom2 isFree fits firstFitFrom firstFit nextCode childCodes below endValue putChild putChildren putParent settle intoEach place headerBytes mapBytes imageBytes slotsUsed isChild childBy childrenOf childrenIn offsetsFrom imageIn slotsIn placedIn withRoom fromPlaced fromLabels fromKeys outcomeOf answered workAfter buildOf keyRecords keyList p1 p2 nodes3 offsets3 children3 labels3 p3 p7 p8-check p8-slot p9-labels p9-longer p10 p11
 computing = tt

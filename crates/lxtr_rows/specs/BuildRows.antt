@@ -4,8 +4,9 @@ use Prim.Native.Nat.{ℕ}
 use mathlib.Core.Path.{refl}
 use mathlib.Core.List.{List, [], _∷_, _++_}
 use lib.ListN.{replicate}
+use Rattle.lxtr_spec.specs.Builds.{imageBytes}
 use Rattle.lxtr_spec.specs.Samples.{keyList}
-use Rattle.lxtr_demands.specs.Rows.{Example, lists-labels, build-length, build-refused, AllHold, _and_, computing}
+use Rattle.lxtr_demands.specs.Rows.{Example, lists-labels, builds, build-length, build-refused, AllHold, _and_, computing}
 
 unfoldable pub run-examples : List Example
 run-examples =
@@ -19,10 +20,26 @@ pub run-examples-hold : AllHold run-examples
 unfolding run-examples computing
 run-examples-hold = refl and refl and refl and refl and refl and tt
 
--- A label counts once for each key that contains it, however often it occurs there: 62 is in two keys, 61 and 63 in one each.
-pub codes-by-keys : AllHold (lists-labels ((0x61 ∷ 0x61 ∷ []) ∷ (0x62 ∷ []) ∷ (0x62 ∷ 0x63 ∷ []) ∷ []) (0x62 ∷ 0x61 ∷ 0x63 ∷ []) ∷ [])
-unfolding computing
-codes-by-keys = refl and tt
+-- Document 02, request 2: every occurrence of a label counts, also in the same key. First the image of the keys 61 and 62 62: 62 occurs
+-- twice, so it has code 1 and slot 5, which 61 would have if each key counted once.
+unfoldable doubled : List ℕ
+doubled =
+    imageBytes (0 ∷ 0 ∷ 4 ∷ 0 ∷ 0x80000001 ∷ 3 ∷ 2 ∷ 0x80000005 ∷ 0x80000000 ∷ 6 ∷ 2 ∷ 1 ∷ 4 ∷ 0x80000001 ∷ [])
+    (0 ∷ 0 ∷ 2 ∷ 2 ∷ 3 ∷ 3 ∷ 4 ∷ 5 ∷ []) (5 ∷ 6 ∷ 2 ∷ 3 ∷ 4 ∷ []) (0x62 ∷ 0x61 ∷ [])
+
+unfoldable pub frequency-examples : List Example
+frequency-examples =
+    -- keys 61 61, 62, 62 63: 61 and 62 tie at two
+    lists-labels ((0x61 ∷ 0x61 ∷ []) ∷ (0x62 ∷ []) ∷ (0x62 ∷ 0x63 ∷ []) ∷ []) (0x61 ∷ 0x62 ∷ 0x63 ∷ [])
+    -- not next to each other: 62 occurs twice, 61 and 63 once; three times in one key, against once in each of two keys
+    ∷ lists-labels ((0x61 ∷ []) ∷ (0x62 ∷ 0x63 ∷ 0x62 ∷ []) ∷ []) (0x62 ∷ 0x61 ∷ 0x63 ∷ [])
+    ∷ lists-labels ((0x61 ∷ []) ∷ (0x61 ∷ 0x63 ∷ []) ∷ (0x62 ∷ 0x62 ∷ 0x62 ∷ []) ∷ []) (0x62 ∷ 0x61 ∷ 0x63 ∷ [])
+    ∷ builds ((0x61 ∷ []) ∷ (0x62 ∷ 0x62 ∷ []) ∷ []) 14 doubled
+    ∷ []
+
+pub frequency-examples-hold : AllHold frequency-examples
+unfolding frequency-examples doubled computing
+frequency-examples-hold = refl and refl and refl and (refl, refl) and tt
 
 unfoldable pub build-refusals : List Example
 build-refusals =

@@ -1,26 +1,27 @@
 -- What the demands rule out, for every possible program. In each module, o is any program that meets the demand, whatever else it
 -- does: over an image it answers what the definitions answer, and from any key list it builds what they build, or refuses as they
--- do. So the programs that document 01 names under "What the promises rule out" fail. Then what is ruled out for the highest value,
--- for code maps and for places of faults.
-use Prim.Native.Nat.{ℕ, zero, suc, _-_, _%_, _≤_, _<_}
+-- do. So the programs that document 01 names under "What the promises rule out" fail, and builders that count labels in another way
+-- than request 2 of document 02. Then what is ruled out for the highest value, for code maps and for places of faults.
+use Prim.Native.Nat.{ℕ, zero, suc, _+_, _-_, _%_, _≤_, _<_}
 use native.Mathlib.Omega.{arith}
 use native.Mathlib.Decide.{ℕ-discrete}
 use mathlib.Core.Path.{_≡_, refl, sym, ap, _∙_, subst}
 use mathlib.Core.Logic.{_≢_, _↔_, ⊎-elim, inr}
 use mathlib.Core.List.{List, [], _∷_, _++_, List·Memᴰ, List·Memᴰ·head, append-nil}
 use mathlib.Core.Option.{Option, some, none, Option·none-ne-some}
-use mathlib.Core.Bool.{Bool, true, false, cond, true≢false}
+use mathlib.Core.Bool.{Bool, true, false, _&&_, not, cond, true≢false}
+use lib.Dec.{ltb, eqb}
 use lib.ListN.{length, take, drop, getD, replicate}
 use lib.Seq.{take-append-seam}
 use Rattle.lxtr_spec.specs.Labels.{labelsOf, Pair}
-use Rattle.lxtr_spec.specs.Image.{magic, slotCount, parent, valueNumber}
+use Rattle.lxtr_spec.specs.Image.{magic, slotCount, parent, valueNumber, labelOfCode}
 use Rattle.lxtr_spec.specs.Refusals.{usedCount, imageRefusal, isEnd, checkOf}
 use Rattle.lxtr_spec.specs.HighestValues.{HighestAnswer, highestOf}
 use Rattle.lxtr_spec.specs.Searches.{ExactAnswer, LongestAnswer, ProbeAnswer, exactOf, prefixesOf, longestOf, probeOf}
 use Rattle.lxtr_spec.specs.Completions.{CompletionAnswer, completionOf}
 use Rattle.lxtr_spec.specs.KeyLists.{pairsOf}
 use Rattle.lxtr_spec.specs.Builds.{BuildAnswer, buildOf}
-use Rattle.lxtr_spec.specs.CodeMaps.{mapOf}
+use Rattle.lxtr_spec.specs.CodeMaps.{occurrences, frequency, mapOf}
 use Rattle.lxtr_spec.specs.FaultPlaces.{faultOf}
 use Rattle.lxtr_spec.specs.Sets.{PairSet, Prefix, Has, ImageOf}
 use Rattle.lxtr_spec.specs.Meaning.{Lists, FittingFront}
@@ -277,6 +278,31 @@ builds3 : (buildOf keys3 (blank 14) (blank 141) .answer .refusal ≡ 0) × (pair
 unfolding computing
 builds3 = (refl, refl)
 
+-- Keys 61 61, 62 and 62 63, in which 61 and 62 occur twice: 61 has code 1.
+abbrev keys-doubled : List ℕ
+keys-doubled = 1 ∷ 0 ∷ 0 ∷ 0 ∷ 3 ∷ 2 ∷ 0 ∷ 0 ∷ 0 ∷ 0x61 ∷ 0 ∷ 0 ∷ 0 ∷ 0x61 ∷ 1 ∷ 0 ∷ 0 ∷ 0 ∷ 0x62 ∷ 2 ∷ 0 ∷ 0 ∷ 0 ∷ 0x62 ∷ 0 ∷ 0 ∷ 0 ∷ 0x63 ∷ []
+
+abbrev front : BuildAnswer → List ℕ
+front a = take (a .answer .length) (a .output)
+
+builds-doubled : (buildOf keys-doubled (blank 20) (blank 250) .answer .refusal ≡ 0) × (labelOfCode (front (buildOf keys-doubled (blank 20) (blank 250))) 1 ≡ 0x61)
+unfolding computing
+builds-doubled = (refl, refl)
+
+-- Wrong counts of a label: the keys that contain it; and its occurrences, of which those next to each other in a key count once.
+keysWith : List Pair → ℕ → ℕ
+keysWith [] x = 0
+keysWith (p ∷ ps) x = cond (ltb 0 (occurrences (p .0) x)) 1 0 + keysWith ps x
+
+runs : List ℕ → ℕ → ℕ
+runs [] x = 0
+runs (y ∷ []) x = cond (eqb y x) 1 0
+runs (y ∷ z ∷ k) x = cond (eqb y x && not (eqb z x)) 1 0 + runs (z ∷ k) x
+
+runsIn : List Pair → ℕ → ℕ
+runsIn [] x = 0
+runsIn (p ∷ ps) x = runs (p .0) x + runsIn ps x
+
 -- refusal numbers are above 0
 refusal-above-0 : (keys work out : List ℕ) (k : ℕ) → RefusedBy keys work out k → k ≢ 0
 refusal-above-0 keys work out k (few-words h) e = omega (arith, e)
@@ -311,7 +337,7 @@ module _ (o : Operations) (meets : Demand2Builder o) where
 
   -- the bytes at the front of the output, of the length that is answered
   abbrev writes : List ℕ → List ℕ → List ℕ → List ℕ
-  writes keys work out = take (o .build keys work out .answer .length) (o .build keys work out .output)
+  writes keys work out = front (o .build keys work out)
 
   -- If a key has a label, some slot has a parent other than slot 1: the key's end, for one.
   pub one-level-fails : (keys work out k : List ℕ) (x v : ℕ) → List·Memᴰ (k ++ x ∷ [], v) (pairsOf keys) → o .build keys work out .answer .refusal ≡ 0
@@ -343,6 +369,36 @@ module _ (o : Operations) (meets : Demand2Builder o) where
   one-level-builder-fails low =
       let first : List·Memᴰ {A = Pair} (0x6E ∷ [], 0) (pairsOf keys3) = subst (List·Memᴰ {A = Pair} (0x6E ∷ [], 0)) (sym (builds3 .1)) (List·Memᴰ·head refl) in
       one-level-fails keys3 (blank 14) (blank 141) [] 0x6E 0 first builds (low keys3 (blank 14) (blank 141) builds)
+
+  doubled-builds : o .build keys-doubled (blank 20) (blank 250) .answer .refusal ≡ 0
+  doubled-builds = ap (λ (a : BuildAnswer). a .answer .refusal) (only-build keys-doubled (blank 20) (blank 250)) ∙ builds-doubled .0
+
+  code-1 : labelOfCode (writes keys-doubled (blank 20) (blank 250)) 1 ≡ 0x61
+  code-1 = ap (λ (a : BuildAnswer). labelOfCode (front a) 1) (only-build keys-doubled (blank 20) (blank 250)) ∙ builds-doubled .1
+
+  -- A builder fails that gives code 1 to a label with the highest number by another count, if this count has more 62 than 61 in the
+  -- keys 61 61, 62 and 62 63.
+  pub other-count-fails : (count : List Pair → ℕ → ℕ) → count (pairsOf keys-doubled) 0x61 < count (pairsOf keys-doubled) 0x62
+      → ((keys work out : List ℕ) → o .build keys work out .answer .refusal ≡ 0 → (x : ℕ) → count (pairsOf keys) x ≤ count (pairsOf keys) (labelOfCode (writes keys work out) 1)) → ⊥
+  other-count-fails count fewer highest =
+      let first = subst (λ (y : ℕ). count (pairsOf keys-doubled) 0x62 ≤ count (pairsOf keys-doubled) y) code-1 (highest keys-doubled (blank 20) (blank 250) doubled-builds 0x62) in
+      omega (arith, fewer, first)
+
+  pub keys-counted-fails : ((keys work out : List ℕ) → o .build keys work out .answer .refusal ≡ 0 → (x : ℕ) → keysWith (pairsOf keys) x ≤ keysWith (pairsOf keys) (labelOfCode (writes keys work out) 1)) → ⊥
+  unfolding computing
+  keys-counted-fails = other-count-fails keysWith (omega arith)
+
+  pub neighbours-once-fails : ((keys work out : List ℕ) → o .build keys work out .answer .refusal ≡ 0 → (x : ℕ) → runsIn (pairsOf keys) x ≤ runsIn (pairsOf keys) (labelOfCode (writes keys work out) 1)) → ⊥
+  unfolding computing
+  neighbours-once-fails = other-count-fails runsIn (omega arith)
+
+  -- So does a builder that gives code 1 to the largest of the labels with the same frequency.
+  pub larger-label-first-fails
+      : ((keys work out : List ℕ) → o .build keys work out .answer .refusal ≡ 0 → (x : ℕ) → frequency (pairsOf keys) x ≡ frequency (pairsOf keys) (labelOfCode (writes keys work out) 1) → x ≤ labelOfCode (writes keys work out) 1) → ⊥
+  unfolding computing
+  larger-label-first-fails largest =
+      let tie : frequency (pairsOf keys-doubled) 0x62 ≡ frequency (pairsOf keys-doubled) 0x61 = refl in
+      omega (arith, code-1, largest keys-doubled (blank 20) (blank 250) doubled-builds 0x62 (tie ∙ ap (frequency (pairsOf keys-doubled)) (sym code-1)))
 
 -- ---- the highest value
 

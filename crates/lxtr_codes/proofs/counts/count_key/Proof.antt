@@ -1,4 +1,4 @@
--- Invariant: the counts of the labels among the first j of the key are one higher than before.
+-- Invariant: each count went up by the label's occurrences among the first j labels of the key.
 use borrow.Author.Needs.{needs}
 use Prim.Native.Nat.{_-_}
 use lib.ListN.{take}
@@ -22,7 +22,6 @@ count-key-spec =
     μ-loop
     (λ c κs. search needs)
     (λ c. search key-start)
-    (λ c κs. (search needs, search needs))
     (λ c κs. search label-inside)
     (λ c κs. (search needs, (search key-inside, search key-small)))
     (λ c. search needs)

@@ -1,6 +1,6 @@
--- A label that the key has already counted is left out; the count of any other goes up by one, and stays small.
+-- The label's count goes up by one, and still fits.
 use borrow.Author.Needs.{needs}
-use Rattle.lxtr_codes.specs.LabelCounting.{count-again, count-fits, count-new}
+use Rattle.lxtr_codes.specs.LabelCounting.{count-fits, count-new}
 use Rattle.lxtr_codes.proofs.counts.count_label.Statement.{statement}
 use Rattle.lxtr_codes.proofs.counts.count_label.Tie as tie
 
@@ -8,7 +8,6 @@ pub count-label-spec : {M : Type 1} → statement M
 count-label-spec =
     tie.close
     (tie.spec
-    (λ c. search count-again)
     (λ c κs. search needs)
     (λ c. search needs)
     (λ c. search needs)

@@ -1,4 +1,5 @@
-//! The examples of document 01, and the sizes around them.
+//! The examples of document 01 and of request 2 of document 02, and the sizes
+//! around them.
 
 use crate::call::Call;
 use crate::comparison::Comparison;
@@ -11,7 +12,14 @@ use crosscheck::keylist::{to_bytes, Key};
 use crosscheck::rules::Rules;
 
 pub fn run(comparison: &mut Comparison) {
-    let lists = [vec![], vec![vec![]], n_na(), vec![vec![0x61], vec![0x62], vec![0x62, 0x62]]];
+    let lists = [
+        vec![],
+        vec![vec![]],
+        n_na(),
+        vec![vec![0x61], vec![0x62], vec![0x62, 0x62]],
+        vec![vec![0x61, 0x61], vec![0x62], vec![0x62, 0x63]],
+        vec![vec![0x61], vec![0x62, 0x62]],
+    ];
     for keys in &lists {
         example(comparison, keys);
     }
