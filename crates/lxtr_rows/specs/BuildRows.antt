@@ -22,7 +22,7 @@ run-examples-hold = refl and refl and refl and refl and refl and tt
 
 -- Document 02, request 2: every occurrence of a label counts, also in the same key. First the image of the keys 61 and 62 62: 62 occurs
 -- twice, so it has code 1 and slot 5, which 61 would have if each key counted once.
-unfoldable doubled : List ℕ
+unfoldable pub doubled : List ℕ
 doubled =
     imageBytes (0 ∷ 0 ∷ 4 ∷ 0 ∷ 0x80000001 ∷ 3 ∷ 2 ∷ 0x80000005 ∷ 0x80000000 ∷ 6 ∷ 2 ∷ 1 ∷ 4 ∷ 0x80000001 ∷ [])
     (0 ∷ 0 ∷ 2 ∷ 2 ∷ 3 ∷ 3 ∷ 4 ∷ 5 ∷ []) (5 ∷ 6 ∷ 2 ∷ 3 ∷ 4 ∷ []) (0x62 ∷ 0x61 ∷ [])

@@ -289,19 +289,36 @@ builds-doubled : (buildOf keys-doubled (blank 20) (blank 250) .answer .refusal �
 unfolding computing
 builds-doubled = (refl, refl)
 
--- Wrong counts of a label: the keys that contain it; and its occurrences, of which those next to each other in a key count once.
-keysWith : List Pair → ℕ → ℕ
-keysWith [] x = 0
-keysWith (p ∷ ps) x = cond (ltb 0 (occurrences (p .0) x)) 1 0 + keysWith ps x
+-- Wrong counts of a label in a key: at most one; and its occurrences, of which those next to each other count once.
+pub once : List ℕ → ℕ → ℕ
+once k x = cond (ltb 0 (occurrences k x)) 1 0
 
-runs : List ℕ → ℕ → ℕ
+pub runs : List ℕ → ℕ → ℕ
 runs [] x = 0
 runs (y ∷ []) x = cond (eqb y x) 1 0
 runs (y ∷ z ∷ k) x = cond (eqb y x && not (eqb z x)) 1 0 + runs (z ∷ k) x
 
-runsIn : List Pair → ℕ → ℕ
-runsIn [] x = 0
-runsIn (p ∷ ps) x = runs (p .0) x + runsIn ps x
+-- such a count, of all keys together
+pub inAll : (List ℕ → ℕ → ℕ) → List Pair → ℕ → ℕ
+inAll count [] x = 0
+inAll count (p ∷ ps) x = count (p .0) x + inAll count ps x
+
+-- By each of them 62 comes before 61.
+wrong-counts : (inAll once (pairsOf keys-doubled) 0x61 ≡ 1) × (inAll once (pairsOf keys-doubled) 0x62 ≡ 2) × (inAll runs (pairsOf keys-doubled) 0x61 ≡ 1) × (inAll runs (pairsOf keys-doubled) 0x62 ≡ 2)
+unfolding once runs inAll computing
+wrong-counts = (refl, refl, refl, refl)
+
+-- y has the highest number by a count
+abbrev pub HighestBy : (List Pair → ℕ → ℕ) → List Pair → ℕ → Type 0
+HighestBy count ps y = (x : ℕ) → count ps x ≤ count ps y
+
+-- and y is the largest of the labels in use that occur as often as y
+abbrev pub LargestOfEqual : List Pair → ℕ → Type 0
+LargestOfEqual ps y = (x : ℕ) → 0 < frequency ps x → frequency ps x ≡ frequency ps y → x ≤ y
+
+twice : (frequency (pairsOf keys-doubled) 0x62 ≡ 2) × (frequency (pairsOf keys-doubled) 0x61 ≡ 2)
+unfolding computing
+twice = (refl, refl)
 
 -- refusal numbers are above 0
 refusal-above-0 : (keys work out : List ℕ) (k : ℕ) → RefusedBy keys work out k → k ≢ 0
@@ -370,35 +387,30 @@ module _ (o : Operations) (meets : Demand2Builder o) where
       let first : List·Memᴰ {A = Pair} (0x6E ∷ [], 0) (pairsOf keys3) = subst (List·Memᴰ {A = Pair} (0x6E ∷ [], 0)) (sym (builds3 .1)) (List·Memᴰ·head refl) in
       one-level-fails keys3 (blank 14) (blank 141) [] 0x6E 0 first builds (low keys3 (blank 14) (blank 141) builds)
 
-  doubled-builds : o .build keys-doubled (blank 20) (blank 250) .answer .refusal ≡ 0
-  doubled-builds = ap (λ (a : BuildAnswer). a .answer .refusal) (only-build keys-doubled (blank 20) (blank 250)) ∙ builds-doubled .0
+  -- The label of code 1 in what is built has this property, for every key list.
+  abbrev FirstLabel : (List Pair → ℕ → Type 0) → Type 0
+  FirstLabel P = (keys work out : List ℕ) → o .build keys work out .answer .refusal ≡ 0 → P (pairsOf keys) (labelOfCode (writes keys work out) 1)
 
-  code-1 : labelOfCode (writes keys-doubled (blank 20) (blank 250)) 1 ≡ 0x61
-  code-1 = ap (λ (a : BuildAnswer). labelOfCode (front a) 1) (only-build keys-doubled (blank 20) (blank 250)) ∙ builds-doubled .1
+  code-1 : (P : List Pair → ℕ → Type 0) → FirstLabel P → P (pairsOf keys-doubled) 0x61
+  code-1 P first =
+      let same : o .build keys-doubled (blank 20) (blank 250) ≡ buildOf keys-doubled (blank 20) (blank 250) = only-build keys-doubled (blank 20) (blank 250) in
+      subst (P (pairsOf keys-doubled)) (ap (λ (a : BuildAnswer). labelOfCode (front a) 1) same ∙ builds-doubled .1)
+      (first keys-doubled (blank 20) (blank 250) (ap (λ (a : BuildAnswer). a .answer .refusal) same ∙ builds-doubled .0))
 
-  -- A builder fails that gives code 1 to a label with the highest number by another count, if this count has more 62 than 61 in the
-  -- keys 61 61, 62 and 62 63.
-  pub other-count-fails : (count : List Pair → ℕ → ℕ) → count (pairsOf keys-doubled) 0x61 < count (pairsOf keys-doubled) 0x62
-      → ((keys work out : List ℕ) → o .build keys work out .answer .refusal ≡ 0 → (x : ℕ) → count (pairsOf keys) x ≤ count (pairsOf keys) (labelOfCode (writes keys work out) 1)) → ⊥
-  other-count-fails count fewer highest =
-      let first = subst (λ (y : ℕ). count (pairsOf keys-doubled) 0x62 ≤ count (pairsOf keys-doubled) y) code-1 (highest keys-doubled (blank 20) (blank 250) doubled-builds 0x62) in
-      omega (arith, fewer, first)
+  -- A builder fails in which this is the label with the highest number by another count, if this count has more 62 than 61 in the
+  -- keys 61 61, 62 and 62 63. The two wrong counts do.
+  pub other-count-fails : (count : List Pair → ℕ → ℕ) → count (pairsOf keys-doubled) 0x61 < count (pairsOf keys-doubled) 0x62 → FirstLabel (HighestBy count) → ⊥
+  other-count-fails count fewer highest = omega (arith, fewer, code-1 (HighestBy count) highest 0x62)
 
-  pub keys-counted-fails : ((keys work out : List ℕ) → o .build keys work out .answer .refusal ≡ 0 → (x : ℕ) → keysWith (pairsOf keys) x ≤ keysWith (pairsOf keys) (labelOfCode (writes keys work out) 1)) → ⊥
-  unfolding computing
-  keys-counted-fails = other-count-fails keysWith (omega arith)
+  pub keys-counted-fails : FirstLabel (HighestBy (inAll once)) → ⊥
+  keys-counted-fails = other-count-fails (inAll once) (omega (arith, wrong-counts .0, wrong-counts .1))
 
-  pub neighbours-once-fails : ((keys work out : List ℕ) → o .build keys work out .answer .refusal ≡ 0 → (x : ℕ) → runsIn (pairsOf keys) x ≤ runsIn (pairsOf keys) (labelOfCode (writes keys work out) 1)) → ⊥
-  unfolding computing
-  neighbours-once-fails = other-count-fails runsIn (omega arith)
+  pub neighbours-once-fails : FirstLabel (HighestBy (inAll runs)) → ⊥
+  neighbours-once-fails = other-count-fails (inAll runs) (omega (arith, wrong-counts .2, wrong-counts .3))
 
-  -- So does a builder that gives code 1 to the largest of the labels with the same frequency.
-  pub larger-label-first-fails
-      : ((keys work out : List ℕ) → o .build keys work out .answer .refusal ≡ 0 → (x : ℕ) → frequency (pairsOf keys) x ≡ frequency (pairsOf keys) (labelOfCode (writes keys work out) 1) → x ≤ labelOfCode (writes keys work out) 1) → ⊥
-  unfolding computing
-  larger-label-first-fails largest =
-      let tie : frequency (pairsOf keys-doubled) 0x62 ≡ frequency (pairsOf keys-doubled) 0x61 = refl in
-      omega (arith, code-1, largest keys-doubled (blank 20) (blank 250) doubled-builds 0x62 (tie ∙ ap (frequency (pairsOf keys-doubled)) (sym code-1)))
+  -- So does a builder in which it is the largest of the labels of its frequency.
+  pub larger-label-first-fails : FirstLabel LargestOfEqual → ⊥
+  larger-label-first-fails largest = omega (arith, code-1 LargestOfEqual largest 0x62 (omega (arith, twice .0)) (twice .0 ∙ sym (twice .1)))
 
 -- ---- the highest value
 
