@@ -14,8 +14,9 @@
  * query      labels as bytes, four to a label, the highest byte first: U+306A is 00 00 30 6A. Its length counts bytes. A number
  *            that the image does not list as a label matches nothing.
  * code       an image lists the labels of its keys; the code of a label is its place in that list, counted from 1. lxtr_build
- *            sorts the labels by how often they occur in all keys together, highest first, and equal ones by their own number,
- *            smallest first. A label that occurs twice in a key counts twice.
+ *            sorts the labels by how often each occurs in all keys, the most frequent first, and labels that occur equally
+ *            often by their number, smallest first. A label that occurs twice in a key counts twice. An image from another
+ *            builder may list its labels in another order.
  * code order compares keys label by label, by the codes; a key comes before longer keys that begin with it. It is not
  *            dictionary order.
  *

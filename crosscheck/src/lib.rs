@@ -1,6 +1,6 @@
-//! LXTR images as document 01 defines them, with the frequencies of request 2 of
-//! document 02, and romaji typing as its request 1 defines it: a second
-//! implementation, which shares nothing with the proved one and is compared with it.
+//! LXTR images as document 01 defines them, with requests 1 (romaji typing) and 2
+//! (frequencies) of document 02: a second implementation, which shares nothing with
+//! the proved one and is compared with it.
 //!
 //! It parses an image into owned vectors and works on those. It often takes
 //! another way to an answer than the sentences of the documents: lists are rebuilt

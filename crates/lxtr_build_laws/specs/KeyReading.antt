@@ -55,11 +55,6 @@ module _ (b : List ℕ) (at : ℕ) where
   unfolding nextKey
   label-inside d len w e h = omega (arith, w .ends)
 
-  -- and so are those of a label before it
-  pub label-before : (d j : ℕ) → WholeKey b at → j < keyLength b at → d < j → at + 5 + 4 * d ≤ length b
-  unfolding nextKey
-  label-before d j w h l = omega (arith, w .ends)
-
 -- ---- the keys that a loop has left, after i of n
 
 module _ (b : List ℕ) (n i at : ℕ) (h : i < n) where

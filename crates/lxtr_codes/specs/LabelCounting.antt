@@ -2,41 +2,40 @@
 use Prim.Native.Nat.{ℕ, _+_, _-_, _*_, _^_, _≤_, _<_}
 use mathlib.Core.Path.{_≡_, refl, sym, ap, _∙_, subst}
 use mathlib.Core.Logic.{_≢_, inl}
-use mathlib.Core.List.{List, [], _∷_, _++_, List·Memᴰ}
+use mathlib.Core.List.{List, [], _∷_, List·Memᴰ}
 use mathlib.Core.List.List·Memᴰ.{List·Memᴰ·head, List·Memᴰ·tail}
 use mathlib.Core.Bool.{cond}
 use mir.Syntax.{w32}
 use mir.Val.{Fits}
 use borrow.Author.Needs.{fits-under}
 use native.Mathlib.Nat.{sub-zero}
-use native.Mathlib.Numerals.{add-one}
 use native.Mathlib.Omega.{arith}
 use native.Mathlib.Decide.{ℕ-discrete}
 use borrow.Author.Tests.{eq-eqb, ne-eqb}
 use lib.Dec.{eqb}
-use lib.ListN.{getD, length, take, set, replicate, length-set, getD-replicate}
-use lib.Seq.{length-take-le, take-suc, take-all, getD-set-same, getD-set-other}
+use lib.ListN.{getD, length, drop, set, replicate, length-set, getD-replicate}
+use lib.Seq.{getD-set-same, getD-set-other}
 use Rattle.lxtr_spec.specs.Labels.{maxLabels, Pair}
 use Rattle.lxtr_spec.specs.KeyLists.{maxKeys, keysAt, keyCount, keyLength, keyLabel, nextKey, keyAt, keysFrom, pairsOf}
 use Rattle.lxtr_spec.specs.CodeMaps.{occurrences, frequency, labelsUsed}
 use Rattle.lxtr_laws.specs.Limit.{length-fits-byte}
 use Rattle.lxtr_laws.specs.Tests.{cond-within}
 use Rattle.lxtr_laws.specs.Members.{member-at}
-use Rattle.lxtr_build_laws.specs.KeyListFacts.{WholeKey, WholeKeys, KeysPassed}
-use Rattle.lxtr_build_laws.specs.KeyReading.{key-size, key-at, whole-on, keys-on, keys-end, keys-length}
+use Rattle.lxtr_build_laws.specs.KeyListFacts.{WholeKeys, KeysPassed}
+use Rattle.lxtr_build_laws.specs.KeyReading.{key-size, key-at, key-goes, key-ends, whole-on, keys-on, keys-end, keys-length}
 use Rattle.lxtr_build_laws.specs.CodeTables.{Rising, placeIn}
 use Rattle.lxtr_build_laws.specs.RisingNumbers.{place-at, place-mem}
 use Rattle.lxtr_build_laws.specs.UsedLabels.{used-members, used-rising}
 
--- No label occurs more often in all keys: a key has at most 255 labels, because its length is a byte.
+-- no count is higher: each key has at most 255 labels, because its length is a byte
 abbrev mostCounted : ℕ
 mostCounted = maxKeys * 255
 
--- the labels of a key are listed, and their counts are small
+-- the labels of a key are listed, and their counts stay small
 pub record Countable (key labels counts : List ℕ) : Type 0 where
   pub room : length labels ≤ length counts
   pub listed : (x : ℕ) → List·Memᴰ x key → List·Memᴰ x labels
-  pub small : (i : ℕ) → i < length labels → getD counts i 0 ≤ mostCounted
+  pub small : (i : ℕ) → i < length labels → getD counts i 0 + occurrences key (getD labels i 0) ≤ mostCounted
 
 -- the count of x goes up by one; the counts are in the order of the labels
 unfoldable pub countOne : List ℕ → ℕ → List ℕ → List ℕ
@@ -63,22 +62,15 @@ module _ (labels : List ℕ) (x : ℕ) (counts : List ℕ) (i : ℕ) (place : i 
 
 -- ---- one key, of which the first j labels are counted
 
-occurrences-most : (k : List ℕ) (x : ℕ) → occurrences k x ≤ length k
-unfolding occurrences
-occurrences-most [] x = omega arith
-occurrences-most (y ∷ k) x = omega (arith, occurrences-most k x, cond-within (eqb y x) 1 0 1 (omega arith) (omega arith))
+pub record KeyCounting (key labels counts₀ counts : List ℕ) (j : ℕ) : Type 0 where
+  pub size : length counts ≡ length counts₀
+  pub left : (i : ℕ) → i < length labels → getD counts i 0 + occurrences (drop j key) (getD labels i 0) ≡ getD counts₀ i 0 + occurrences key (getD labels i 0)
 
-occurrences-last : (k : List ℕ) (x y : ℕ) → occurrences (k ++ x ∷ []) y ≡ occurrences k y + cond (eqb x y) 1 0
-unfolding occurrences
-occurrences-last [] x y = omega arith
-occurrences-last (z ∷ k) x y = omega (arith, occurrences-last k x y)
+pub key-start : (b : List ℕ) (at : ℕ) (labels counts : List ℕ) → KeyCounting (keyAt b at) labels counts counts 0
+key-start b at labels counts = record { size = refl; left = λ i h. refl }
 
-pub key-start : (b : List ℕ) (at : ℕ) (labels counts : List ℕ) → KeyCounted (take 0 (keyAt b at)) labels counts counts
-unfolding occurrences
-key-start b at labels counts = record { size = refl; each = λ i h. omega arith }
-
-module _ (b : List ℕ) (at : ℕ) (labels c₀ : List ℕ) (whole : WholeKey b at) (rising : Rising labels) (able : Countable (keyAt b at) labels c₀) where
-  module _ (j len x : ℕ) (h : j < len) (size : len ≡ keyLength b at) (is : x ≡ keyLabel b at j) (c : List ℕ) (so-far : KeyCounted (take j (keyAt b at)) labels c₀ c) where
+module _ (b : List ℕ) (at : ℕ) (labels c₀ : List ℕ) (rising : Rising labels) (able : Countable (keyAt b at) labels c₀) where
+  module _ (j len x : ℕ) (h : j < len) (size : len ≡ keyLength b at) (is : x ≡ keyLabel b at j) (c : List ℕ) (so-far : KeyCounting (keyAt b at) labels c₀ c j) where
     abbrev place : ℕ
     place = placeIn labels x
 
@@ -88,38 +80,45 @@ module _ (b : List ℕ) (at : ℕ) (labels c₀ : List ℕ) (whole : WholeKey b 
     pub key-inside : place < length c
     key-inside = omega (arith, found .0, able .room, so-far .size)
 
+    -- of the labels that are left, the first one is x
+    goes : (y : ℕ) → occurrences (drop j (keyAt b at)) y ≡ cond (eqb x y) 1 0 + occurrences (drop (j + 1) (keyAt b at)) y
+    unfolding occurrences
+    goes y = ap (λ (l : List ℕ). occurrences l y) (key-goes b at j (omega arith)) ∙ ap (λ (z : ℕ). cond (eqb z y) 1 0 + occurrences (drop (j + 1) (keyAt b at)) y) (sym is)
+
+    goes-x : (y : ℕ) → x ≡ y → occurrences (drop j (keyAt b at)) y ≡ 1 + occurrences (drop (j + 1) (keyAt b at)) y
+    goes-x y e = goes y ∙ rw (eq-eqb x y e) refl
+
+    goes-other : (y : ℕ) → x ≢ y → occurrences (drop j (keyAt b at)) y ≡ occurrences (drop (j + 1) (keyAt b at)) y
+    goes-other y d = goes y ∙ rw (ne-eqb x y d) (omega arith)
+
     pub key-small : getD c place 0 + 1 < 2 ^ 32
-    key-small = omega (arith, so-far .each place (found .0), able .small place (found .0), occurrences-most (take j (keyAt b at)) (getD labels place 0), length-take-le j (keyAt b at) (omega (arith, key-size b at)), whole .short, length-fits-byte)
+    key-small = omega (arith, so-far .left place (found .0), able .small place (found .0), goes-x (getD labels place 0) (sym (found .1)))
 
-    adds : (y : ℕ) → occurrences (take (j + 1) (keyAt b at)) y ≡ occurrences (take j (keyAt b at)) y + cond (eqb x y) 1 0
-    adds y =
-        ap (λ (m : ℕ). occurrences (take m (keyAt b at)) y) (add-one j)
-        ∙ ap (λ (l : List ℕ). occurrences l y) (take-suc (keyAt b at) j 0 (omega (arith, key-size b at)))
-        ∙ ap (λ (z : ℕ). occurrences (take j (keyAt b at) ++ z ∷ []) y) (key-at b at j (omega arith) ∙ sym is)
-        ∙ occurrences-last (take j (keyAt b at)) x y
-
-    -- the occurrences of a label go up by one if it is x, and stay otherwise
-    adds-one : (y : ℕ) → x ≡ y → occurrences (take (j + 1) (keyAt b at)) y ≡ occurrences (take j (keyAt b at)) y + 1
-    adds-one y e = adds y ∙ rw (eq-eqb x y e) refl
-
-    adds-none : (y : ℕ) → x ≢ y → occurrences (take (j + 1) (keyAt b at)) y ≡ occurrences (take j (keyAt b at)) y + 0
-    adds-none y d = adds y ∙ rw (ne-eqb x y d) refl
-
-    pub key-next : (c′ : List ℕ) → c′ ≡ countOne labels x c → KeyCounted (take (j + 1) (keyAt b at)) labels c₀ c′
+    pub key-next : (c′ : List ℕ) → c′ ≡ countOne labels x c → KeyCounting (keyAt b at) labels c₀ c′ (j + 1)
     unfolding countOne
-    key-next c′ put = rw put (record { size = length-set c place (getD c place 0 + 1) ∙ so-far .size; each = λ i l. go i l (ℕ-discrete i place) })
+    key-next c′ put = rw put (record { size = length-set c place (getD c place 0 + 1) ∙ so-far .size; left = λ i l. go i l (ℕ-discrete i place) })
       where
-        go : (i : ℕ) → i < length labels → Dec (i ≡ place) → getD (set c place (getD c place 0 + 1)) i 0 ≡ getD c₀ i 0 + occurrences (take (j + 1) (keyAt b at)) (getD labels i 0)
+        go : (i : ℕ) → i < length labels → Dec (i ≡ place)
+            → getD (set c place (getD c place 0 + 1)) i 0 + occurrences (drop (j + 1) (keyAt b at)) (getD labels i 0) ≡ getD c₀ i 0 + occurrences (keyAt b at) (getD labels i 0)
         go i l (yes d) =
-            rw d (omega (arith, getD-set-same c place (getD c place 0 + 1) 0 key-inside, so-far .each place (found .0), adds-one (getD labels place 0) (sym (found .1))))
+            rw d (omega (arith, getD-set-same c place (getD c place 0 + 1) 0 key-inside, so-far .left place (found .0), goes-x (getD labels place 0) (sym (found .1))))
         go i l (no d) =
-            let other = adds-none (getD labels i 0) (λ q. d (sym (place-at labels i rising l) ∙ ap (placeIn labels) (sym q))) in
-            omega (arith, getD-set-other c place i (getD c place 0 + 1) 0 d, so-far .each i l, other)
+            let other = goes-other (getD labels i 0) (λ q. d (sym (place-at labels i rising l) ∙ ap (placeIn labels) (sym q))) in
+            omega (arith, getD-set-other c place i (getD c place 0 + 1) 0 d, so-far .left i l, other)
 
-pub key-end : (b : List ℕ) (at : ℕ) (labels c₀ : List ℕ) (j len : ℕ) (c : List ℕ) → len ≡ keyLength b at → len ≤ j → KeyCounted (take j (keyAt b at)) labels c₀ c → KeyCounted (keyAt b at) labels c₀ c
-key-end b at labels c₀ j len c e h g = rw (take-all j (keyAt b at) (omega (arith, key-size b at))) at g
+pub key-end : (b : List ℕ) (at : ℕ) (labels c₀ : List ℕ) (j len : ℕ) (c : List ℕ) → len ≡ keyLength b at → len ≤ j → KeyCounting (keyAt b at) labels c₀ c j → KeyCounted (keyAt b at) labels c₀ c
+unfolding occurrences
+key-end b at labels c₀ j len c e h g = record {
+  size = g .size;
+  each = λ i l. omega (arith, g .left i l, ap (λ (k : List ℕ). occurrences k (getD labels i 0)) (key-ends b at j (omega arith)));
+}
 
 -- ---- all keys, of which the first i are counted
+
+occurrences-most : (k : List ℕ) (x : ℕ) → occurrences k x ≤ length k
+unfolding occurrences
+occurrences-most [] x = omega arith
+occurrences-most (y ∷ k) x = omega (arith, occurrences-most k x, cond-within (eqb y x) 1 0 1 (omega arith) (omega arith))
 
 frequency-most : (ps : List Pair) (x : ℕ) → ((p : Pair) → List·Memᴰ p ps → length (p .0) ≤ maxLabels) → frequency ps x ≤ length ps * 255
 unfolding frequency
@@ -151,15 +150,19 @@ counting-start b count labels counts e passed l room z = record {
 
 module _ (b : List ℕ) (count : ℕ) (labels counts : List ℕ) (at i : ℕ) (g : Counting b count labels counts at i) where
   module _ (h : i < count) where
+    -- of the keys that are left, the first one is at this place
+    goes-on : (y : ℕ) → frequency (keysFrom b (count - i) i at) y ≡ occurrences (keyAt b at) y + frequency (keysFrom b (count - (i + 1)) (i + 1) (nextKey b at)) y
+    unfolding frequency
+    goes-on y = ap (λ (ps : List Pair). frequency ps y) (keys-on b count i at h)
+
     pub counting-able : Countable (keyAt b at) labels counts
     counting-able = record {
       room = g .room;
       listed = g .listed (keyAt b at, i) (rw (keys-on b count i at h) (List·Memᴰ·head refl));
-      small = λ k l. omega (arith, g .left k l, g .most (getD labels k 0));
+      small = λ k l. omega (arith, g .left k l, goes-on (getD labels k 0), g .most (getD labels k 0));
     }
 
     pub counting-next : (counts′ : List ℕ) (at′ : ℕ) → KeyCounted (keyAt b at) labels counts counts′ → at′ ≡ nextKey b at → Counting b count labels counts′ at′ (i + 1)
-    unfolding frequency
     counting-next counts′ at′ k e = rw e (record {
       count-is = g .count-is;
       most = g .most;
@@ -167,7 +170,7 @@ module _ (b : List ℕ) (count : ℕ) (labels counts : List ℕ) (at i : ℕ) (g
       room = omega (arith, g .room, k .size);
       rising = g .rising;
       listed = λ p m. g .listed p (rw (keys-on b count i at h) (List·Memᴰ·tail m));
-      left = λ j l. omega (arith, g .left j l, k .each j l, ap (λ (ps : List Pair). frequency ps (getD labels j 0)) (keys-on b count i at h));
+      left = λ j l. omega (arith, g .left j l, k .each j l, goes-on (getD labels j 0));
     })
 
   pub counting-end : count ≤ i → Counted (pairsOf b) labels counts

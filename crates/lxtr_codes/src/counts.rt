@@ -15,7 +15,7 @@ use lxtr_keys::key_label;
 use lxtr_keys::key_length;
 use lxtr_keys::next_key;
 
-// Counts one label of a key.
+// Adds one to the count of a label.
 fn count_label(labels: &[u32], guesses: &[u32], counts: &mut [u32], label: u32)
     requires { ⌜ Rising (now labels) ⌝ }
     requires { ⌜ placeIn (now labels) label < length (now counts) ⌝ }
@@ -26,7 +26,7 @@ fn count_label(labels: &[u32], guesses: &[u32], counts: &mut [u32], label: u32)
     counts[i] += 1;
 }
 
-// Counts the labels of the key at `at`.
+// Adds each label of the key at `at` to the counts, as often as it occurs there.
 fn count_key(keys: &[u8], at: usize, labels: &[u32], guesses: &[u32], counts: &mut [u32])
     requires { ⌜ WholeKey (now keys) at ⌝ }
     requires { ⌜ Rising (now labels) ⌝ }

@@ -1,4 +1,4 @@
--- Document 01's example "Run", what a label's frequency counts, then the builder's refusals and the order of two that hold at once.
+-- Document 01's example "Run", what a frequency counts, then the builder's refusals and the order of two that hold at once.
 -- (Not 20 and 22, which take long to compute: the program `run_examples` runs them.)
 use Prim.Native.Nat.{ℕ}
 use mathlib.Core.Path.{refl}
@@ -20,8 +20,8 @@ pub run-examples-hold : AllHold run-examples
 unfolding run-examples computing
 run-examples-hold = refl and refl and refl and refl and refl and tt
 
--- Document 02, request 2: every occurrence of a label counts, also in the same key. First the image of the keys 61 and 62 62: 62 occurs
--- twice, so it has code 1 and slot 5, which 61 would have if each key counted once.
+-- Document 02, request 2: every occurrence of a label counts, also a second one in the same key. The image of the keys 61 and 62 62:
+-- 62 occurs twice, so it has code 1 and slot 5; if a key counted each of its labels once, 61 would have both.
 unfoldable pub doubled : List ℕ
 doubled =
     imageBytes (0 ∷ 0 ∷ 4 ∷ 0 ∷ 0x80000001 ∷ 3 ∷ 2 ∷ 0x80000005 ∷ 0x80000000 ∷ 6 ∷ 2 ∷ 1 ∷ 4 ∷ 0x80000001 ∷ [])
@@ -31,8 +31,9 @@ unfoldable pub frequency-examples : List Example
 frequency-examples =
     -- keys 61 61, 62, 62 63: 61 and 62 tie at two
     lists-labels ((0x61 ∷ 0x61 ∷ []) ∷ (0x62 ∷ []) ∷ (0x62 ∷ 0x63 ∷ []) ∷ []) (0x61 ∷ 0x62 ∷ 0x63 ∷ [])
-    -- not next to each other: 62 occurs twice, 61 and 63 once; three times in one key, against once in each of two keys
+    -- 62 occurs twice, not next to each other; 61 and 63 once
     ∷ lists-labels ((0x61 ∷ []) ∷ (0x62 ∷ 0x63 ∷ 0x62 ∷ []) ∷ []) (0x62 ∷ 0x61 ∷ 0x63 ∷ [])
+    -- 62 occurs three times in one key, 61 once in each of two keys
     ∷ lists-labels ((0x61 ∷ []) ∷ (0x61 ∷ 0x63 ∷ []) ∷ (0x62 ∷ 0x62 ∷ 0x62 ∷ []) ∷ []) (0x62 ∷ 0x61 ∷ 0x63 ∷ [])
     ∷ builds ((0x61 ∷ []) ∷ (0x62 ∷ 0x62 ∷ []) ∷ []) 14 doubled
     ∷ []

@@ -1,7 +1,7 @@
 -- What the demands rule out, for every possible program. In each module, o is any program that meets the demand, whatever else it
 -- does: over an image it answers what the definitions answer, and from any key list it builds what they build, or refuses as they
--- do. So the programs that document 01 names under "What the promises rule out" fail, and builders that count labels in another way
--- than request 2 of document 02. Then what is ruled out for the highest value, for code maps and for places of faults.
+-- do. So the programs that document 01 names under "What the promises rule out" fail, and so do builders that count labels otherwise
+-- than request 2 of document 02 says. Then what is ruled out for the highest value, for code maps and for places of faults.
 use Prim.Native.Nat.{ℕ, zero, suc, _+_, _-_, _%_, _≤_, _<_}
 use native.Mathlib.Omega.{arith}
 use native.Mathlib.Decide.{ℕ-discrete}
@@ -289,7 +289,7 @@ builds-doubled : (buildOf keys-doubled (blank 20) (blank 250) .answer .refusal �
 unfolding computing
 builds-doubled = (refl, refl)
 
--- Wrong counts of a label in a key: at most one; and its occurrences, of which those next to each other count once.
+-- Wrong counts of a label in a key: 1 if it occurs at all; and its occurrences, where equal labels next to each other count once.
 pub once : List ℕ → ℕ → ℕ
 once k x = cond (ltb 0 (occurrences k x)) 1 0
 
@@ -303,16 +303,16 @@ pub inAll : (List ℕ → ℕ → ℕ) → List Pair → ℕ → ℕ
 inAll count [] x = 0
 inAll count (p ∷ ps) x = count (p .0) x + inAll count ps x
 
--- By each of them 62 comes before 61.
+-- By both counts 62 comes before 61.
 wrong-counts : (inAll once (pairsOf keys-doubled) 0x61 ≡ 1) × (inAll once (pairsOf keys-doubled) 0x62 ≡ 2) × (inAll runs (pairsOf keys-doubled) 0x61 ≡ 1) × (inAll runs (pairsOf keys-doubled) 0x62 ≡ 2)
 unfolding once runs inAll computing
 wrong-counts = (refl, refl, refl, refl)
 
--- y has the highest number by a count
+-- no label has a higher count than y
 abbrev pub HighestBy : (List Pair → ℕ → ℕ) → List Pair → ℕ → Type 0
 HighestBy count ps y = (x : ℕ) → count ps x ≤ count ps y
 
--- and y is the largest of the labels in use that occur as often as y
+-- y is the largest of the used labels that have its frequency
 abbrev pub LargestOfEqual : List Pair → ℕ → Type 0
 LargestOfEqual ps y = (x : ℕ) → 0 < frequency ps x → frequency ps x ≡ frequency ps y → x ≤ y
 
@@ -387,7 +387,7 @@ module _ (o : Operations) (meets : Demand2Builder o) where
       let first : List·Memᴰ {A = Pair} (0x6E ∷ [], 0) (pairsOf keys3) = subst (List·Memᴰ {A = Pair} (0x6E ∷ [], 0)) (sym (builds3 .1)) (List·Memᴰ·head refl) in
       one-level-fails keys3 (blank 14) (blank 141) [] 0x6E 0 first builds (low keys3 (blank 14) (blank 141) builds)
 
-  -- The label of code 1 in what is built has this property, for every key list.
+  -- the label of code 1 in what is built always has property P
   abbrev FirstLabel : (List Pair → ℕ → Type 0) → Type 0
   FirstLabel P = (keys work out : List ℕ) → o .build keys work out .answer .refusal ≡ 0 → P (pairsOf keys) (labelOfCode (writes keys work out) 1)
 
@@ -397,8 +397,8 @@ module _ (o : Operations) (meets : Demand2Builder o) where
       subst (P (pairsOf keys-doubled)) (ap (λ (a : BuildAnswer). labelOfCode (front a) 1) same ∙ builds-doubled .1)
       (first keys-doubled (blank 20) (blank 250) (ap (λ (a : BuildAnswer). a .answer .refusal) same ∙ builds-doubled .0))
 
-  -- A builder fails in which this is the label with the highest number by another count, if this count has more 62 than 61 in the
-  -- keys 61 61, 62 and 62 63. The two wrong counts do.
+  -- A builder fails if code 1 always goes to a label with the highest count, by a count that is higher for 62 than for 61 in the keys
+  -- 61 61, 62 and 62 63. Both wrong counts are.
   pub other-count-fails : (count : List Pair → ℕ → ℕ) → count (pairsOf keys-doubled) 0x61 < count (pairsOf keys-doubled) 0x62 → FirstLabel (HighestBy count) → ⊥
   other-count-fails count fewer highest = omega (arith, fewer, code-1 (HighestBy count) highest 0x62)
 
@@ -408,7 +408,7 @@ module _ (o : Operations) (meets : Demand2Builder o) where
   pub neighbours-once-fails : FirstLabel (HighestBy (inAll runs)) → ⊥
   neighbours-once-fails = other-count-fails (inAll runs) (omega (arith, wrong-counts .2, wrong-counts .3))
 
-  -- So does a builder in which it is the largest of the labels of its frequency.
+  -- A builder also fails if the label of code 1 is always the largest of its frequency.
   pub larger-label-first-fails : FirstLabel LargestOfEqual → ⊥
   larger-label-first-fails largest = omega (arith, code-1 LargestOfEqual largest 0x62 (omega (arith, twice .0)) (twice .0 ∙ sym (twice .1)))
 
@@ -486,7 +486,7 @@ module _ (o : Operations) (meets : (b : List ℕ) → HighestValue o b) where
 
 -- ---- code maps
 
--- Codes by label alone fail, on P3's keys: 6E is in two of them, 61 in one.
+-- Codes by label alone fail, on P3's keys: 6E occurs twice in them, 61 once.
 codes3 : mapOf pairs3 ≡ 0x6E ∷ 0x61 ∷ []
 unfolding computing
 codes3 = refl

@@ -1,15 +1,14 @@
--- Invariant: each count went up by the label's occurrences among the first j labels of the key.
+-- Invariant: a label's count, plus its occurrences among the key's labels from j on, is its count after the whole key.
 use borrow.Author.Needs.{needs}
 use Prim.Native.Nat.{_-_}
-use lib.ListN.{take}
 use Rattle.lxtr_spec.specs.KeyLists.{keyAt}
 use Rattle.lxtr_build_laws.specs.KeyReading.{label-inside}
-use Rattle.lxtr_codes.specs.LabelCounting.{KeyCounted, key-start, key-inside, key-small, key-next, key-end}
+use Rattle.lxtr_codes.specs.LabelCounting.{KeyCounting, key-start, key-inside, key-small, key-next, key-end}
 use Rattle.lxtr_codes.proofs.counts.count_key.Statement.{statement}
 use Rattle.lxtr_codes.proofs.counts.count_key.Tie as tie
 
 abbrev Inv-loop : tie.InvT-loop
-Inv-loop keys at labels guesses counts₀ len j₀ counts j = KeyCounted (take j (keyAt keys at)) labels counts₀ counts
+Inv-loop keys at labels guesses counts₀ len j₀ counts j = KeyCounting (keyAt keys at) labels counts₀ counts j
 
 abbrev μ-loop : tie.MeasureT-loop
 μ-loop keys at labels guesses counts₀ len j₀ counts j = len - j
