@@ -5,7 +5,7 @@ use crate::image::{CodeMap, Image, Node, TOP_BIT};
 use crate::keylist::{self, Key};
 use crate::rules::{Rules, Wrong};
 use std::cmp::Reverse;
-use std::collections::{BTreeMap, HashMap, VecDeque};
+use std::collections::{BTreeMap, BTreeSet, HashMap, VecDeque};
 
 /// Builds into `out`, and leaves `work` as document 01 says. Returns the length of the image.
 pub fn build(
@@ -75,11 +75,11 @@ fn labels_by_frequency(rules: Rules, keys: &[Key]) -> Vec<u32> {
 /// The labels of a key that count: all of them, each as often as it occurs.
 fn counted(rules: Rules, key: &Key) -> Vec<u32> {
     let mut labels = key.clone();
-    if rules.breaks(Wrong::KeysCounted) {
-        labels.sort();
-    }
-    if rules.breaks(Wrong::KeysCounted) || rules.breaks(Wrong::NeighboursCountOnce) {
+    if rules.breaks(Wrong::NeighboursCountOnce) {
         labels.dedup();
+    }
+    if rules.breaks(Wrong::KeysCounted) {
+        labels = BTreeSet::from_iter(labels).into_iter().collect();
     }
     labels
 }

@@ -27,9 +27,12 @@ use Rattle.lxtr_build_laws.specs.CodeTables.{Rising, placeIn}
 use Rattle.lxtr_build_laws.specs.RisingNumbers.{place-at, place-mem}
 use Rattle.lxtr_build_laws.specs.UsedLabels.{used-members, used-rising}
 
--- no count is higher: each key has at most 255 labels, because its length is a byte
+-- A key has at most 255 labels, because its length is a byte. So no count is higher than this:
+abbrev mostInKey : ℕ
+mostInKey = 255
+
 abbrev mostCounted : ℕ
-mostCounted = maxKeys * 255
+mostCounted = maxKeys * mostInKey
 
 -- the labels of a key are listed, and their counts stay small
 pub record Countable (key labels counts : List ℕ) : Type 0 where
@@ -56,9 +59,9 @@ module _ (labels : List ℕ) (x : ℕ) (counts : List ℕ) (i : ℕ) (place : i 
   pub count-fits : getD counts (placeIn labels x) 0 + 1 < 2 ^ 32 → Fits w32 (getD counts i 0 + 1)
   count-fits h = rw place (fits-under w32 (getD counts (placeIn labels x) 0 + 1) (2 ^ 32) h tt)
 
-  pub count-new : set counts i (getD counts i 0 + 1) ≡ countOne labels x counts
+  pub count-put : set counts i (getD counts i 0 + 1) ≡ countOne labels x counts
   unfolding countOne
-  count-new = rw (countOne, place) refl
+  count-put = rw (countOne, place) refl
 
 -- ---- one key, of which the first j labels are counted
 
@@ -120,7 +123,7 @@ unfolding occurrences
 occurrences-most [] x = omega arith
 occurrences-most (y ∷ k) x = omega (arith, occurrences-most k x, cond-within (eqb y x) 1 0 1 (omega arith) (omega arith))
 
-frequency-most : (ps : List Pair) (x : ℕ) → ((p : Pair) → List·Memᴰ p ps → length (p .0) ≤ maxLabels) → frequency ps x ≤ length ps * 255
+frequency-most : (ps : List Pair) (x : ℕ) → ((p : Pair) → List·Memᴰ p ps → length (p .0) ≤ maxLabels) → frequency ps x ≤ length ps * mostInKey
 unfolding frequency
 frequency-most [] x short = omega arith
 frequency-most (p ∷ ps) x short =

@@ -1,7 +1,7 @@
 -- What the demands rule out, for every possible program. In each module, o is any program that meets the demand, whatever else it
 -- does: over an image it answers what the definitions answer, and from any key list it builds what they build, or refuses as they
--- do. So the programs that document 01 names under "What the promises rule out" fail, and so do builders that count labels otherwise
--- than request 2 of document 02 says. Then what is ruled out for the highest value, for code maps and for places of faults.
+-- do. So the programs that document 01 names under "What the promises rule out" fail, and so do builders with three mistakes that
+-- request 2 of document 02 tempts to. Then what is ruled out for the highest value, for code maps and for places of faults.
 use Prim.Native.Nat.{ℕ, zero, suc, _+_, _-_, _%_, _≤_, _<_}
 use native.Mathlib.Omega.{arith}
 use native.Mathlib.Decide.{ℕ-discrete}

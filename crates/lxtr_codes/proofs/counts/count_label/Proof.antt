@@ -1,6 +1,6 @@
 -- The label's count goes up by one, and still fits.
 use borrow.Author.Needs.{needs}
-use Rattle.lxtr_codes.specs.LabelCounting.{count-fits, count-new}
+use Rattle.lxtr_codes.specs.LabelCounting.{count-fits, count-put}
 use Rattle.lxtr_codes.proofs.counts.count_label.Statement.{statement}
 use Rattle.lxtr_codes.proofs.counts.count_label.Tie as tie
 
@@ -14,4 +14,4 @@ count-label-spec =
     (λ c. search count-fits)
     (λ c. search needs)
     (λ c. search needs)
-    (λ c. search count-new))
+    (λ c. search count-put))
