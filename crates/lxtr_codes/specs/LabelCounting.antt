@@ -27,10 +27,11 @@ use Rattle.lxtr_build_laws.specs.CodeTables.{Rising, placeIn}
 use Rattle.lxtr_build_laws.specs.RisingNumbers.{place-at, place-mem}
 use Rattle.lxtr_build_laws.specs.UsedLabels.{used-members, used-rising}
 
--- A key has at most 255 labels, because its length is a byte. So no count is higher than this:
+-- a key has at most this many labels, because its length is a byte
 abbrev mostInKey : ℕ
 mostInKey = 255
 
+-- so no count is higher than this
 abbrev mostCounted : ℕ
 mostCounted = maxKeys * mostInKey
 
