@@ -63,6 +63,22 @@ static void show_typing(const uint8_t *image, size_t length)
 	show_bytes(state, 4);
 }
 
+/* Key presses: < takes the last label back. */
+static void show_positions(const uint8_t *image, size_t length)
+{
+	char what[] = "press .";
+	uint64_t position = lxtr_position_fresh();
+
+	for (const char *key = "nax<<<<"; *key != '\0'; key++) {
+		if (*key == '<')
+			position = lxtr_position_back(image, length, position);
+		else
+			position = lxtr_position_push(image, length, position, (uint32_t)*key);
+		what[sizeof what - 2] = *key;
+		show(what, lxtr_position_probe(image, length, position));
+	}
+}
+
 static void show_answers(const uint8_t *image, size_t length)
 {
 	uint32_t places[5] = { 7, 7, 7, 7, 7 };
@@ -75,6 +91,7 @@ static void show_answers(const uint8_t *image, size_t length)
 	show("exact (empty)", lxtr_exact(image, length, NULL, 0));
 	show("probe n", lxtr_probe(image, length, text, N));
 	show("probe na", lxtr_probe(image, length, text, NA));
+	show_positions(image, length);
 	show("longest nan", lxtr_longest(image, length, text, sizeof text));
 	show("longest, cut", lxtr_longest(image, length, text, sizeof text - 1));
 	show("prefixes nan", lxtr_prefixes(image, length, text, sizeof text, places, 5));

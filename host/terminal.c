@@ -1,7 +1,8 @@
 /*
- * terminal: a small host program of a terminal. It loads an image, types a prefix label by label, and shows the completions.
+ * terminal: a small host program of a terminal. It loads an image, types a text label by label, shows what is known after each key
+ * press, and at the end the completions. In the text, < takes the last label back.
  *
- *     terminal IMAGE PREFIX
+ *     terminal IMAGE TEXT
  */
 #include <errno.h>
 #include <inttypes.h>
@@ -21,10 +22,36 @@ static int refused(const char *what, uint64_t answer)
 	return 1;
 }
 
-/* Shows what the probe says about the labels typed so far. */
-static void show_probe(const char *text, size_t length, uint64_t answer)
+/* The labels typed so far: as a position, which answers each key press, and as a query, for the completions. */
+struct typed {
+	uint64_t position;
+	uint8_t query[4 * LXTR_MAX_TYPED_LABELS];
+	size_t length;
+};
+
+/* One key press. */
+static void press(struct typed *typed, size_t image_length, uint32_t label)
 {
-	printf("%.*s: ", (int)length, text);
+	if (label == '<') {
+		typed->position = lxtr_position_back(image, image_length, typed->position);
+		if (typed->length > 0)
+			typed->length -= 4;
+		return;
+	}
+	/* A position counts no more labels than the query has room for, so both have the same labels. */
+	typed->position = lxtr_position_push(image, image_length, typed->position, label);
+	if (typed->length < sizeof typed->query) {
+		put_label(typed->query + typed->length, label);
+		typed->length += 4;
+	}
+}
+
+/* Shows what is known about the labels typed so far. */
+static void show_probe(const struct typed *typed, uint64_t answer)
+{
+	for (size_t at = 0; at < typed->length; at += 4)
+		write_character(label_at(typed->query + at), stdout);
+	printf(": ");
 	if (lxtr_has_value(answer))
 		printf("value %" PRIu32 ", ", lxtr_number(answer));
 	else
@@ -49,7 +76,7 @@ static void show_records(uint32_t count)
 int main(int argc, char **argv)
 {
 	if (argc != 3) {
-		fprintf(stderr, "usage: terminal IMAGE PREFIX\n");
+		fprintf(stderr, "usage: terminal IMAGE TEXT\n");
 		return 2;
 	}
 	long length = read_file(argv[1], image, sizeof image);
@@ -62,24 +89,20 @@ int main(int argc, char **argv)
 		return refused("image", checked);
 	printf("image: %" PRIu32 " keys\n", lxtr_number(checked));
 
-	/* A query longer than the longest key matches nothing, so room for one label more is enough. */
-	uint8_t query[4 * (LXTR_MAX_LABELS + 1)];
-	size_t query_length = 0;
-	const char *end = argv[2];
-	while (*end != '\0' && query_length < sizeof query) {
+	struct typed typed = { .position = lxtr_position_fresh() };
+	for (const char *at = argv[2]; *at != '\0';) {
 		uint32_t label;
-		size_t bytes = read_character(end, &label);
+		size_t bytes = read_character(at, &label);
 		if (bytes == 0) {
-			fprintf(stderr, "terminal: the prefix is not well-formed UTF-8\n");
+			fprintf(stderr, "terminal: the text is not well-formed UTF-8\n");
 			return 2;
 		}
-		end += bytes;
-		put_label(query + query_length, label);
-		query_length += 4;
-		show_probe(argv[2], (size_t)(end - argv[2]), lxtr_probe(image, (size_t)length, query, query_length));
+		at += bytes;
+		press(&typed, (size_t)length, label);
+		show_probe(&typed, lxtr_position_probe(image, (size_t)length, typed.position));
 	}
 
-	uint64_t listed = lxtr_complete(image, (size_t)length, query, query_length, room, sizeof room);
+	uint64_t listed = lxtr_complete(image, (size_t)length, typed.query, typed.length, room, sizeof room);
 	if (lxtr_refusal(listed) != 0)
 		return refused("completions", listed);
 	printf("completions: %" PRIu32 "%s\n", lxtr_number(listed), lxtr_more(listed) ? ", and more" : "");

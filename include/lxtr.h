@@ -42,7 +42,8 @@
  * the refusal is 0, nothing was refused. If not, it is a value of enum lxtr_reason, all other parts are 0, and lent memory is
  * unchanged (but lxtr_build clears its work: see there). If several reasons hold, the answer is the first of them, in the order
  * given at the function. lxtr_fault differs: along with a refusal it gives a kind and a number, and it answers 0 for an image that
- * lxtr_check refuses with 1 to 8.
+ * lxtr_check refuses with 1 to 8. lxtr_position_fresh, lxtr_position_push and lxtr_position_back answer a typing position instead,
+ * which is not taken apart.
  *
  * LAYOUT OF AN IMAGE; only needed to understand a refusal
  *
@@ -74,6 +75,9 @@ extern "C" {
 #define LXTR_MAX_KEYS 32768
 #define LXTR_MAX_LISTED_LABELS 4095
 
+/* The largest number of labels that a typing position counts. */
+#define LXTR_MAX_TYPED_LABELS 255
+
 /* The number of words that lxtr_prefixes writes: a length and a value for each possible length from 0 to 64. */
 #define LXTR_PREFIX_WORDS (2 * (LXTR_MAX_LABELS + 1))
 
@@ -92,7 +96,7 @@ extern "C" {
 enum lxtr_reason {
 	LXTR_NOT_REFUSED = 0,
 
-	/* of an image, by every function that takes one except lxtr_fault, in this order */
+	/* of an image, in this order, by every function that takes one except lxtr_fault, lxtr_position_push and lxtr_position_back */
 	LXTR_IMAGE_TOO_SHORT = 1,      /* fewer than 24 bytes */
 	LXTR_NOT_LXTR = 2,             /* the first four bytes are not "LXTR" */
 	LXTR_WRONG_VERSION = 3,        /* the version is not 3 */
@@ -102,10 +106,13 @@ enum lxtr_reason {
 	LXTR_WRONG_MAP = 7,            /* M is below 5, the version of the code map is not 1, L is above 4,095, or M is not 5 + 4 L */
 	LXTR_WRONG_OFFSET_ENDS = 8,    /* the first offset is not 0, or the last is not E */
 
-	/* of an image, in this order, by every function that takes one except lxtr_exact, lxtr_probe, lxtr_longest and lxtr_prefixes */
+	/*
+	 * of an image, in this order, by every function that takes one except lxtr_exact, lxtr_probe, lxtr_longest, lxtr_prefixes and
+	 * those for typing positions
+	 */
 	LXTR_WRONG_LABELS = 9,         /* a listed label is not a scalar value, or is listed twice */
 	LXTR_WRONG_SLOTS = 10,         /* a slot does not fit its parent or its end, or is unused and not zero; all searches read slots */
-	LXTR_WRONG_LISTS = 11,         /* a children list does not fit the slots; lxtr_complete reads lists, lxtr_probe their lengths */
+	LXTR_WRONG_LISTS = 11,         /* a children list does not fit the slots; lxtr_complete reads lists, the two probes their lengths */
 	LXTR_UNREACHABLE = 12,         /* a used slot does not reach slot 1 in 65 or fewer steps to the parent */
 
 	/* of a query, and of the room of lxtr_complete */
@@ -169,9 +176,9 @@ static inline unsigned lxtr_fault_kind(uint64_t answer)
  * Checks an image. The number is how many keys it has. Refusals: 1 to 12, in this order.
  *
  * Nothing is refused exactly when the bytes are an image of a set of keys and values. There is then exactly one such set, and
- * the other functions answer according to it. lxtr_exact, lxtr_probe, lxtr_longest and lxtr_prefixes do not test 9 to 12. On an
- * image with such a fault they still answer, but the answer may be wrong. So check an image once before you trust its answers.
- * That a word was found says nothing about the rest of the image.
+ * the other functions answer according to it. lxtr_exact, lxtr_probe, lxtr_longest, lxtr_prefixes and the functions for typing
+ * positions do not test 9 to 12. On an image with such a fault they still answer, but the answer may be wrong. So check an image
+ * once before you trust its answers. That a word was found says nothing about the rest of the image.
  */
 uint64_t lxtr_check(const uint8_t *image, size_t image_length);
 
@@ -205,6 +212,39 @@ uint64_t lxtr_exact(const uint8_t *image, size_t image_length, const uint8_t *qu
  * Looks up a key as lxtr_exact does. "More" says whether longer keys begin with the query. Refusals: 1 to 8, then 13.
  */
 uint64_t lxtr_probe(const uint8_t *image, size_t image_length, const uint8_t *query, size_t query_length);
+
+/*
+ * A typing position stands for the labels that were typed and not taken back. A terminal keeps it from one key press to the next, so
+ * that it need not pass the whole text again: a push costs one step of a lookup, however long the text is.
+ *
+ * lxtr_position_fresh answers the position without labels. lxtr_position_push answers the position after one more label, passed as
+ * a number such as 0x306A. Any number may be passed; one that the image does not list matches nothing. lxtr_position_back answers
+ * the position after the last label is taken back; if there is no label, it answers the position that it was passed.
+ * lxtr_position_probe answers what lxtr_probe answers for the labels of the position. Refusals: 1 to 8, in this order.
+ *
+ *     uint64_t position = lxtr_position_fresh();                                  // before the first key press
+ *
+ *     position = lxtr_position_push(image, image_length, position, label);        // when a label is typed
+ *     position = lxtr_position_back(image, image_length, position);               // when the last label is taken back
+ *     uint64_t answer = lxtr_position_probe(image, image_length, position);       // after either
+ *
+ * If no key begins with the labels typed, lxtr_position_probe answers neither a value nor "more". All labels count nevertheless:
+ * taking the last one back always leads to the position before it. At most LXTR_MAX_TYPED_LABELS labels count. A push beyond that
+ * changes nothing, so do not take its label back.
+ *
+ * What the bits of a position mean is not specified, but the same labels over the same image give the same position. If the image
+ * is refused, lxtr_position_push and lxtr_position_back answer the position that they were passed, and lxtr_position_probe answers
+ * the refusal; this holds for any number as a position. A fresh position can be used with every image, any other only with the
+ * image over which it was made. With another image, or for a number that no call answered, the functions return and stay within
+ * their memory, but what they answer is not specified.
+ */
+uint64_t lxtr_position_fresh(void);
+
+uint64_t lxtr_position_push(const uint8_t *image, size_t image_length, uint64_t position, uint32_t label);
+
+uint64_t lxtr_position_back(const uint8_t *image, size_t image_length, uint64_t position);
+
+uint64_t lxtr_position_probe(const uint8_t *image, size_t image_length, uint64_t position);
 
 /*
  * Finds the longest key with which the query begins. The number is its length in labels, so the key is the first 4 * number

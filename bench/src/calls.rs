@@ -1,8 +1,9 @@
 //! The archive's C functions, called with slices instead of pointers and lengths.
 
 use crate::functions::{
-    lxtr_build, lxtr_check, lxtr_complete, lxtr_exact, lxtr_highest, lxtr_longest, lxtr_prefixes,
-    lxtr_probe, lxtr_romaji_type,
+    lxtr_build, lxtr_check, lxtr_complete, lxtr_exact, lxtr_highest, lxtr_longest,
+    lxtr_position_back, lxtr_position_fresh, lxtr_position_probe, lxtr_position_push,
+    lxtr_prefixes, lxtr_probe, lxtr_romaji_type,
 };
 
 // SAFETY of every call below: a slice is valid for its length, and one lent by
@@ -33,6 +34,22 @@ pub fn prefixes(image: &[u8], query: &[u8], places: &mut [u32]) -> u64 {
     unsafe {
         lxtr_prefixes(image.as_ptr(), image.len(), query.as_ptr(), query.len(), places, places_len)
     }
+}
+
+pub fn position_fresh() -> u64 {
+    unsafe { lxtr_position_fresh() }
+}
+
+pub fn position_push(image: &[u8], position: u64, label: u32) -> u64 {
+    unsafe { lxtr_position_push(image.as_ptr(), image.len(), position, label) }
+}
+
+pub fn position_back(image: &[u8], position: u64) -> u64 {
+    unsafe { lxtr_position_back(image.as_ptr(), image.len(), position) }
+}
+
+pub fn position_probe(image: &[u8], position: u64) -> u64 {
+    unsafe { lxtr_position_probe(image.as_ptr(), image.len(), position) }
 }
 
 pub fn complete(image: &[u8], prefix: &[u8], room: &mut [u8]) -> u64 {

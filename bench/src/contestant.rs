@@ -18,6 +18,17 @@ pub struct Call<'a> {
     pub query: &'a [u8],
 }
 
+/// A call of any kind, by its query.
+pub trait Query {
+    fn query(&self) -> &[u8];
+}
+
+impl Query for Call<'_> {
+    fn query(&self) -> &[u8] {
+        self.query
+    }
+}
+
 /// Memory lent to a call.
 #[derive(Clone, Default, PartialEq, Eq)]
 pub struct Lent {
@@ -50,9 +61,9 @@ pub trait Contestant {
 }
 
 /// A contestant that answers by calling a function.
-pub struct By<'a, F> {
+pub struct By<C, F> {
     name: &'static str,
-    calls: Vec<Call<'a>>,
+    calls: Vec<C>,
     lent: Lent,
     answer: F,
     compared: usize,
@@ -61,15 +72,15 @@ pub struct By<'a, F> {
     rounds: usize,
 }
 
-impl<'a, F: Fn(&Call, &mut Lent) -> u64> By<'a, F> {
-    pub fn new(name: &'static str, calls: &[Call<'a>], lent: &Lent, answer: F) -> By<'a, F> {
+impl<C: Clone, F: Fn(&C, &mut Lent) -> u64> By<C, F> {
+    pub fn new(name: &'static str, calls: &[C], lent: &Lent, answer: F) -> By<C, F> {
         let calls = calls.to_vec();
         let (compared, sample) = (calls.len(), calls.len());
         By { name, calls, lent: lent.clone(), answer, compared, sample, rounds: 1 }
     }
 
     /// The same, compared on a few calls only.
-    pub fn slow(mut self) -> By<'a, F> {
+    pub fn slow(mut self) -> By<C, F> {
         self.compared = self.compared.min(FEW);
         self
     }
@@ -85,7 +96,7 @@ impl<'a, F: Fn(&Call, &mut Lent) -> u64> By<'a, F> {
     }
 }
 
-impl<F: Fn(&Call, &mut Lent) -> u64> Contestant for By<'_, F> {
+impl<C: Query + Clone, F: Fn(&C, &mut Lent) -> u64> Contestant for By<C, F> {
     fn name(&self) -> &'static str {
         self.name
     }
@@ -95,7 +106,7 @@ impl<F: Fn(&Call, &mut Lent) -> u64> Contestant for By<'_, F> {
     }
 
     fn query(&self, at: usize) -> &[u8] {
-        self.calls[at].query
+        self.calls[at].query()
     }
 
     fn answer(&mut self, at: usize) -> u64 {

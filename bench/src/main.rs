@@ -18,6 +18,7 @@ mod keys;
 mod measure;
 mod operations;
 mod parsed;
+mod positions;
 mod random;
 mod romaji;
 mod table;
@@ -26,6 +27,7 @@ mod workload;
 
 use measure::{Effort, Plan};
 use operations::Operation;
+use positions::Positions;
 use std::process::ExitCode;
 use table::{grouped, Row, Table};
 use typing::Typing;
@@ -55,9 +57,11 @@ fn main() -> ExitCode {
 fn run(sizes: &[usize], effort: Effort) -> Result<(), String> {
     let workloads: Vec<Workload> =
         sizes.iter().map(|size| Workload::new(*size)).collect::<Result<_, _>>()?;
+    let positions = Positions::new(&workloads[workloads.len() - 1].dictionaries);
     let typing = Typing::new()?;
     println!("{}", explanation(effort));
     workloads.iter().for_each(|on| println!("{}", on.dictionaries[0].describe()));
+    println!("{}", positions.describe());
     println!("romaji, {}", typing.dictionary.describe());
     let mut compared = 0;
     for operation in Operation::ALL {
@@ -66,6 +70,10 @@ fn run(sizes: &[usize], effort: Effort) -> Result<(), String> {
         let plans = sizes.iter().copied().zip(&workloads).map(plan);
         compared += measured(operation.title(), ["keys", "growth"], plans, effort)?;
     }
+    let title = "position, answered: a call looks up 8 labels, or types the last one and looks up";
+    compared += measured(title, ["call", "to probe"], positions.answered(), effort)?;
+    let title = "position, moved: a call types the last of 8 labels, or takes it back";
+    compared += measured(title, ["call", "to push"], positions.moved(), effort)?;
     let title = "type, one key: a call checks the image of the romaji table and types one byte";
     compared += measured(title, ["call", "to check"], typing.one_key(), effort)?;
     let title = "type, texts: a call checks the image of the romaji table and types a text";
@@ -102,6 +110,8 @@ Rust          the independent implementation, from the same bytes to the same an
 Rust, parsed  the same, but the image was parsed into its vectors before
 ratio         product's time divided by Rust's
 growth        time with the most keys or bytes divided by time with the fewest
+to probe      time of typing a label and looking up divided by time of looking up the whole text
+to push       time of taking a label back divided by time of typing it
 to check      time of typing one key divided by time of checking the image
 ",
         effort.sweeps

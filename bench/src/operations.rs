@@ -3,7 +3,7 @@
 //! function over an image that is already parsed.
 
 use crate::calls;
-use crate::contestant::{By, Call, Lent};
+use crate::contestant::{By, Call, Lent, Query};
 use crate::dictionary::{Dictionary, IMAGE_BYTES, WORK_WORDS};
 use crate::measure::Contestants;
 use crate::workload::Workload;
@@ -172,11 +172,11 @@ fn build(on: &Workload) -> Contestants<'_> {
     )
 }
 
-fn two<'a>(
-    calls: &[Call<'a>],
+fn two<'a, C: Query + Clone + 'a>(
+    calls: &[C],
     lent: &Lent,
-    product: impl Fn(&Call, &mut Lent) -> u64 + 'a,
-    rust: impl Fn(&Call, &mut Lent) -> u64 + 'a,
+    product: impl Fn(&C, &mut Lent) -> u64 + 'a,
+    rust: impl Fn(&C, &mut Lent) -> u64 + 'a,
 ) -> Contestants<'a> {
     vec![
         Box::new(By::new(PRODUCT, calls, lent, product)),
@@ -184,12 +184,12 @@ fn two<'a>(
     ]
 }
 
-pub fn three<'a>(
-    calls: &[Call<'a>],
+pub fn three<'a, C: Query + Clone + 'a>(
+    calls: &[C],
     lent: &Lent,
-    product: impl Fn(&Call, &mut Lent) -> u64 + 'a,
-    rust: impl Fn(&Call, &mut Lent) -> u64 + 'a,
-    parsed: impl Fn(&Call, &mut Lent) -> u64 + 'a,
+    product: impl Fn(&C, &mut Lent) -> u64 + 'a,
+    rust: impl Fn(&C, &mut Lent) -> u64 + 'a,
+    parsed: impl Fn(&C, &mut Lent) -> u64 + 'a,
 ) -> Contestants<'a> {
     let mut contestants = two(calls, lent, product, rust);
     contestants.push(Box::new(By::new(PARSED, calls, lent, parsed)));

@@ -1,10 +1,11 @@
 //! The independent implementation over an image that is already parsed: the
 //! functions of `crosscheck::answers` without their first step.
 
-use crosscheck::answers::{romaji_number, value_number};
+use crosscheck::answers::{probe_number, romaji_number, value_number};
 use crosscheck::check::accept;
 use crosscheck::common::{labels_in, Refusal};
 use crosscheck::image::Image;
+use crosscheck::position::{Move, Position};
 use crosscheck::romaji::{Lent, Press};
 use crosscheck::rules::Rules;
 
@@ -34,9 +35,18 @@ impl Parsed {
     }
 
     pub fn probe(&self, query: &[u8]) -> u64 {
-        let probe = self.0.probe(RULES, &labels_in(query));
-        let more = if probe.longer_keys { MORE } else { 0 };
-        more + value_number(probe.value)
+        probe_number(self.0.probe(RULES, &labels_in(query)))
+    }
+
+    /// The position after a move.
+    pub fn moved(&self, from: &Position, next: Move) -> Position {
+        let mut position = from.clone();
+        position.make_in(RULES, &self.0, next);
+        position
+    }
+
+    pub fn position_probe(&self, position: &Position) -> u64 {
+        position.probe_in(RULES, &self.0).map_or_else(refused, probe_number)
     }
 
     pub fn longest(&self, query: &[u8]) -> u64 {
@@ -69,6 +79,10 @@ impl Parsed {
 
     /// The answer for the first of refusals 9 to 12 that holds, if one does.
     fn refusal(&self) -> Option<u64> {
-        accept(RULES, &self.0).err().map(|Refusal(number)| u64::from(number) << 40)
+        accept(RULES, &self.0).err().map(refused)
     }
+}
+
+fn refused(Refusal(number): Refusal) -> u64 {
+    u64::from(number) << 40
 }

@@ -1,5 +1,6 @@
-//! The eleven functions in the archive's form: bytes and lent memory in, one
-//! number out. That number is refusal * 2^40 plus what the function found.
+//! The functions in the archive's form: bytes and lent memory in, one number out.
+//! That number is refusal * 2^40 plus what the function found. A typing position
+//! is passed as a list, because the header does not specify the archive's number.
 
 use crate::builder;
 use crate::check;
@@ -7,9 +8,12 @@ use crate::common::{Refusal, KEY_LABELS};
 use crate::completion;
 use crate::fault;
 use crate::highest;
+use crate::image::Image;
+use crate::position::{replay, Move, Opened, Position};
 use crate::romaji::{self, Press};
 use crate::rules::{Rules, Wrong};
-use crate::search;
+use crate::search::{self, Probe};
+use std::iter;
 
 const REFUSAL: u64 = 1 << 40;
 /// Longer keys exist, or a listing stopped.
@@ -59,9 +63,25 @@ pub fn exact(rules: Rules, image: &[u8], query: &[u8]) -> u64 {
 }
 
 pub fn probe(rules: Rules, image: &[u8], query: &[u8]) -> u64 {
-    number(search::probe(rules, image, query), |probe| {
-        flag(probe.longer_keys) + value_number(probe.value)
-    })
+    number(search::probe(rules, image, query), probe_number)
+}
+
+/// The number of what probe found.
+pub fn probe_number(probe: Probe) -> u64 {
+    flag(probe.longer_keys) + value_number(probe.value)
+}
+
+pub fn position_probe(rules: Rules, image: &Opened, position: &Position) -> u64 {
+    number(position.probe(rules, image), probe_number)
+}
+
+/// What a fresh position answers over the first image, and what the position answers after each
+/// move over the image whose index the move has.
+pub fn moves(rules: Rules, images: &[&[u8]], moves: &[(usize, Move)]) -> Vec<u64> {
+    let images: Vec<Opened> = images.iter().map(|image| Image::parse(rules, image)).collect();
+    let over = iter::once(0).chain(moves.iter().map(|(over, _)| *over));
+    let positions = replay(rules, &images, moves);
+    positions.iter().zip(over).map(|(at, over)| position_probe(rules, &images[over], at)).collect()
 }
 
 pub fn longest(rules: Rules, image: &[u8], query: &[u8]) -> u64 {

@@ -1,11 +1,12 @@
-//! LXTR images as document 01 defines them, with requests 1 (romaji typing) and 2
-//! (frequencies) of document 02: a second implementation, which shares nothing with
-//! the proved one and is compared with it.
+//! LXTR images as document 01 defines them, with requests 1 (romaji typing), 2
+//! (frequencies) and 3 (typing positions) of document 02: a second implementation,
+//! which shares nothing with the proved one and is compared with it.
 //!
 //! It parses an image into owned vectors and works on those. It often takes
 //! another way to an answer than the sentences of the documents: lists are rebuilt
 //! and compared, depths are memoised, walks are recorded as trails, first fit
-//! tries 64 bases at once, and typing looks keys up in a sorted map.
+//! tries 64 bases at once, typing looks keys up in a sorted map, and a typing
+//! position is a list of labels that is walked again after each move.
 //!
 //! Every function takes a [`rules::Rules`]. [`rules::Rules::DOCUMENT`] is what the
 //! documents say; any other value breaks exactly one of their rules, which the
@@ -22,6 +23,7 @@ pub mod image;
 pub mod keylist;
 pub mod listing;
 pub mod oracle;
+pub mod position;
 pub mod random;
 pub mod romaji;
 pub mod rules;
@@ -29,5 +31,7 @@ pub mod search;
 
 #[cfg(test)]
 mod examples;
+#[cfg(test)]
+mod position_examples;
 #[cfg(test)]
 mod romaji_examples;

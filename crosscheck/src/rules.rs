@@ -1,5 +1,5 @@
-//! The rules of document 01, with requests 1 (romaji typing) and 2 (frequencies)
-//! of document 02, and wrong variants that break one rule each.
+//! The rules of document 01, with requests 1 (romaji typing), 2 (frequencies) and 3
+//! (typing positions) of document 02, and wrong variants that break one rule each.
 //!
 //! A comparison that cannot tell a wrong variant from the documents is too weak.
 //! Each variant is tested at the one place where its rule is written, with the
@@ -167,6 +167,32 @@ wrong_variants! {
     WalkPassesWhole: "all bytes that begin a key pass at once if no key matches",
     LowestBytesMatch: "a label above 255 matches the byte that is its lowest",
     BytesAreSigned: "bytes above 127 are labels with all high bits set",
+    // Typing positions: refusals, the place.
+    PositionTests9To12: "a typing position tests 9 to 12 too",
+    RefusedPushCounts: "a refused push counts its label",
+    RefusedBackCounts: "a refused taking-back takes a label back",
+    RefusalBeginsAnew: "a refusal begins a fresh position",
+    PlaceNotCompared: "the place is not compared with N",
+    PlaceMayBeN: "a place that is N is in the image",
+    FailedMovesAnywhere: "with a failed label the place is not compared with N",
+    OutsideBeginsAnew: "a place that is not below N begins a fresh position",
+    Slot0IsNoPlace: "a step that reaches slot 0 fails",
+    RootBySlot: "nothing is taken back at slot 1",
+    RootByParent: "nothing is taken back at a slot whose parent is 0",
+    // Typing positions: labels that fail, labels that only count.
+    GoodPlaceAnswered: "after a failed label the last good place is answered",
+    FailedLabelNotCounted: "a label that fails is not counted",
+    LaterLabelsNotCounted: "labels after a failed one are not counted",
+    FailedLabelLosesPlace: "taking back a failed label leads to no labels",
+    FailedBackMovesUp: "taking back a failed label takes back the one before it too",
+    PositionPastTheLimit: "labels beyond the limit of a key are answered",
+    PositionBelowLimit: "the last label that a key may have is not answered",
+    PastTheLimitNotCounted: "labels beyond the limit of a key are not counted",
+    LabelsCountTo254: "the 255th label is not counted",
+    LabelsCountTo256: "the 256th label is counted",
+    FullListShifts: "the 256th label is counted in place of the first one",
+    FullListBeginsAnew: "the 256th label begins the count anew",
+    BackAtNoneWraps: "taking back at no labels leads to 255 labels",
     // The key list.
     KeyLimit32767: "a count of 32,768 is refused",
     OneLabelTooMany: "a key may have one label more than allowed",

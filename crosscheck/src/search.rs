@@ -64,7 +64,7 @@ impl Image {
     }
 
     /// The slots after 0, 1, 2 .. labels, up to where the walk stops.
-    fn trail(&self, rules: Rules, labels: &[u32]) -> Vec<u32> {
+    pub fn trail(&self, rules: Rules, labels: &[u32]) -> Vec<u32> {
         let unlisted = rules.either(None, Wrong::UnlistedIsCode0, Some(0));
         let mut trail = vec![1];
         for label in labels {

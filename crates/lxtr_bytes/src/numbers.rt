@@ -1,6 +1,7 @@
 // 32-bit numbers as four bytes, in either byte order; an index, and the lesser of two.
 ghost use mathlib.Core.Path.{_≡_};
 ghost use Prim.Native.Nat.{_+_, _*_, _/_, _%_, _^_, _≤_, _<_, min};
+ghost use lib.Dec.{eqb};
 ghost use lib.ListN.{length};
 ghost use Rattle.lxtr_spec.specs.Numbers.{le32, be32, leBytes, beBytes};
 ghost use Rattle.lxtr_laws.specs.Overlays.{over};
@@ -30,6 +31,14 @@ fn high_first(a: u8, b: u8, c: u8, d: u8) -> u32
     swapped(word(a, b, c, d))
 }
 
+// Whether four bytes, the highest first, are the number x. x is swapped instead of the bytes, so that a loop that compares many
+// places with one number swaps once.
+fn high_first_equals(a: u8, b: u8, c: u8, d: u8, x: u32) -> bool
+    ensures { λ r. ⌜ r ≡ eqb (a * 2 ^ 24 + b * 2 ^ 16 + c * 2 ^ 8 + d) x ⌝ }
+{
+    word(a, b, c, d) == swapped(x)
+}
+
 // The little-endian number at position `at`.
 pub fn le32_at(s: &[u8], at: usize) -> u32
     requires { ⌜ at + 4 ≤ length (now s) ⌝ }
@@ -44,6 +53,14 @@ pub fn be32_at(s: &[u8], at: usize) -> u32
     ensures { λ r. ⌜ r ≡ be32 (now (s .entry)) at ⌝ }
 {
     high_first(s[at], s[at + 1], s[at + 2], s[at + 3])
+}
+
+// Whether the big-endian number at position `at` is x.
+pub fn be32_equals(s: &[u8], at: usize, x: u32) -> bool
+    requires { ⌜ at + 4 ≤ length (now s) ⌝ }
+    ensures { λ r. ⌜ r ≡ eqb (be32 (now (s .entry)) at) x ⌝ }
+{
+    high_first_equals(s[at], s[at + 1], s[at + 2], s[at + 3], x)
 }
 
 // A 32-bit number, for use as an index.

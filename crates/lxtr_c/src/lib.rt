@@ -4,7 +4,7 @@ ghost use mathlib.Core.Path.{_≡_};
 ghost use mathlib.Core.Bool.{false};
 ghost use Prim.Native.Nat.{_%_, _^_};
 ghost use Rattle.lxtr_spec.specs.Refusals.{unlessRefused};
-ghost use Rattle.lxtr_spec.specs.HostNumbers.{hostNumber, atFront, checkNumber, faultNumber, highestNumber, exactNumber, probeNumber, longestNumber, hostPrefixesOf, hostCompletionOf, hostBuildOf};
+ghost use Rattle.lxtr_spec.specs.HostNumbers.{hostNumber, atFront, checkNumber, faultNumber, highestNumber, exactNumber, probeNumber, longestNumber, hostPrefixesOf, hostFresh, hostPushOf, hostBackOf, positionProbeNumber, hostCompletionOf, hostBuildOf};
 ghost use Rattle.romaji_spec.specs.HostStates.{stateBytes, hostTypeOf, hostFinishOf};
 use lxtr_build::build;
 use lxtr_check::check;
@@ -15,6 +15,9 @@ use lxtr_host::numbers::fault_numbered;
 use lxtr_host::numbers::host_number;
 use lxtr_host::numbers::value_numbered;
 use lxtr_host::places::put_places;
+use lxtr_position::Position;
+use lxtr_position::numbers::position_number;
+use lxtr_position::numbers::position_of;
 use lxtr_search::exact;
 use lxtr_search::longest;
 use lxtr_search::matches::put_prefixes;
@@ -98,6 +101,42 @@ pub extern "C" fn lxtr_prefixes(image: &[u8], query: &[u8], places: &mut [u32]) 
     }
     put_places(&lengths, &values, places);
     number
+}
+
+// A typing position without labels.
+#[no_mangle]
+pub extern "C" fn lxtr_position_fresh() -> u64
+    ensures { λ r. ⌜ r ≡ hostFresh ⌝ }
+{
+    position_number(Position::fresh())
+}
+
+// The position after one more label.
+#[no_mangle]
+pub extern "C" fn lxtr_position_push(image: &[u8], position: u64, label: u32) -> u64
+    ensures { λ r. ⌜ r ≡ hostPushOf (now (image .entry)) position label ⌝ }
+{
+    let moved = position_of(position).push(image, label);
+    position_number(moved.position)
+}
+
+// The position after the last label is taken back.
+#[no_mangle]
+pub extern "C" fn lxtr_position_back(image: &[u8], position: u64) -> u64
+    ensures { λ r. ⌜ r ≡ hostBackOf (now (image .entry)) position ⌝ }
+{
+    let moved = position_of(position).back(image);
+    position_number(moved.position)
+}
+
+// What the probe answers for the labels typed so far.
+#[no_mangle]
+pub extern "C" fn lxtr_position_probe(image: &[u8], position: u64) -> u64
+    ensures { λ r. ⌜ r ≡ positionProbeNumber (now (image .entry)) position ⌝ }
+{
+    let answer = position_of(position).probe(image);
+    let value = answer.value;
+    value_numbered(answer.refusal, answer.longer, value)
 }
 
 // Completions: how many records are in the room, and whether the listing stopped for lack of room.

@@ -30,6 +30,9 @@ pub mod Probes
 pub mod Prefixes
 pub mod Searches
 pub mod Demand2
+-- Typing positions.
+pub mod TypingPositions
+pub mod PositionNumbers
 -- The builder.
 pub mod Sections
 pub mod WorkSlots

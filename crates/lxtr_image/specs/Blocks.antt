@@ -115,11 +115,11 @@ module _ (b : List ℕ) (x i : ℕ) where
   sum-start = record { to = omega arith; sum = refl }
 
   module _ (k s : ℕ) (so-far : SumSoFar b x i k s) where
-    -- l is the label at the next place, and w what that place adds
-    module _ (l w : ℕ) (h : k < blockSize) (label : l ≡ labelAt b (i + k)) (adds : w ≡ weight (eqb l x) k) where
+    -- t tells whether the next place has the label, and w is what that place adds
+    module _ (t : Bool) (w : ℕ) (h : k < blockSize) (test : t ≡ eqb (labelAt b (i + k)) x) (adds : w ≡ weight t k) where
       pub sum-next : SumSoFar b x i (k + 1) (s + w)
       unfolding blockSum
-      sum-next = record { to = omega arith; sum = rw (add-one, blockSum, so-far .sum, adds, label) }
+      sum-next = record { to = omega arith; sum = rw (add-one, blockSum, so-far .sum, adds, test) }
 
       pub sum-fits : Fits w32 (s + w)
       sum-fits = fits-under w32 (s + w) (2 ^ 32) (omega (arith, sum-next .sum, sum-bound b x i (k + 1) (omega arith))) tt

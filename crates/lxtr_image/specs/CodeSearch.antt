@@ -1,12 +1,13 @@
 -- The search for a label's code as a loop: the code of the label is what the search of the n - i places from i up gives.
--- Each turn reads the label l at place i.
+-- Each turn tests whether place i has the label.
 use Prim.Native.Nat.{ℕ, _+_, _*_, _-_, _≤_, _<_}
-use mathlib.Core.Path.{_≡_, sym, _∙_}
+use mathlib.Core.Path.{_≡_}
+use mathlib.Core.Bool.{Bool, true, false}
 use mathlib.Core.List.{List}
 use mathlib.Core.Option.{Option, some, none}
 use native.Mathlib.Nat.{sub-zero}
 use native.Mathlib.Omega.{arith}
-use borrow.Author.Tests.{eq-eqb, ne-eqb}
+use lib.Dec.{eqb}
 use lib.ListN.{length}
 use Rattle.lxtr_spec.specs.Numbers.{be32}
 use Rattle.lxtr_laws.specs.Passed.{Passed}
@@ -16,12 +17,20 @@ use Rattle.lxtr_spec.specs.Image.{mapLength, mapAt, labelCount, labelAt, codeFr
 no-more : (n i : ℕ) → n ≤ i → n - i ≡ 0
 no-more n i h = omega arith
 
--- a label read from the end of the image: the map is its last part, so the image's length tells where the map starts
-pub label-from-end : (b : List ℕ) (i m r : ℕ) → Passed b → m ≡ mapLength b → r ≡ be32 b (length b - m + 5 + 4 * i) → r ≡ labelAt b i
-unfolding labelAt
-label-from-end b i m r ok e h =
-    let at : length b - m + 5 + 4 * i ≡ mapAt b + 5 + 4 * i = omega (arith, ok .whole .size, e) in
-    rw at at h
+-- a position in the map, computed from the end of the image: the map is its last part, so the image's length tells where it starts
+pub from-end : (b : List ℕ) (i m : ℕ) → Passed b → m ≡ mapLength b → length b - m + 5 + 4 * i ≡ mapAt b + 5 + 4 * i
+from-end b i m ok e = omega (arith, ok .whole .size, e)
+
+module _ (b : List ℕ) (i at : ℕ) (e : at ≡ mapAt b + 5 + 4 * i) where
+  -- r is the label read there
+  pub label-read : (r : ℕ) → r ≡ be32 b at → r ≡ labelAt b i
+  unfolding labelAt
+  label-read r h = rw e at h
+
+  -- t is the outcome of its comparison with x
+  pub label-compared : (x : ℕ) (t : Bool) → t ≡ eqb (be32 b at) x → t ≡ eqb (labelAt b i) x
+  unfolding labelAt
+  label-compared x t h = rw e at h
 
 module _ (b : List ℕ) (x n : ℕ) where
   pub code-start : (i : ℕ) → n ≡ labelCount b → codeFrom b x (labelCount b - i) i ≡ codeFrom b x (n - i) i
@@ -33,13 +42,13 @@ module _ (b : List ℕ) (x n : ℕ) where
   code-all e = rw (sub-zero, e)
 
   module _ (i : ℕ) (o : Option ℕ) (known : o ≡ codeFrom b x (n - i) i) where
-    pub code-hit : (l : ℕ) → i < n → l ≡ labelAt b i → l ≡ x → some (i + 1) ≡ o
+    pub code-hit : (t : Bool) → i < n → t ≡ eqb (labelAt b i) x → t ≡ true → some (i + 1) ≡ o
     unfolding codeFrom
-    code-hit l h e m = rw (known, more n i h, codeFrom, eq-eqb (labelAt b i) x (sym e ∙ m))
+    code-hit t h e m = rw (known, more n i h, codeFrom, ← e, m)
 
-    pub code-miss : (l : ℕ) → i < n → l ≡ labelAt b i → (l ≡ x → ⊥) → o ≡ codeFrom b x (n - (i + 1)) (i + 1)
+    pub code-miss : (t : Bool) → i < n → t ≡ eqb (labelAt b i) x → t ≡ false → o ≡ codeFrom b x (n - (i + 1)) (i + 1)
     unfolding codeFrom
-    code-miss l h e m = rw (known, more n i h, codeFrom, ne-eqb (labelAt b i) x (λ q. m (e ∙ q)))
+    code-miss t h e m = rw (known, more n i h, codeFrom, ← e, m)
 
     -- the rest is searched elsewhere, and r is what that search gives
     pub code-rest : (r : Option ℕ) → n ≡ labelCount b → r ≡ codeFrom b x (labelCount b - i) i → r ≡ o

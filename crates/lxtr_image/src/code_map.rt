@@ -1,7 +1,8 @@
 // The code map: the labels that it lists, and the code of a label.
 ghost use mathlib.Core.Path.{_≡_};
-ghost use Prim.Native.Nat.{_+_, _-_, _<_, _≤_};
-ghost use Rattle.lxtr_spec.specs.Image.{mapLength, mapVersion, labelCount, labelAt, codeFrom, codeOf};
+ghost use Prim.Native.Nat.{_+_, _*_, _-_, _<_, _≤_};
+ghost use lib.Dec.{eqb};
+ghost use Rattle.lxtr_spec.specs.Image.{mapLength, mapAt, mapVersion, labelCount, labelAt, codeFrom, codeOf};
 ghost use Rattle.lxtr_spec.specs.Answers.{found};
 ghost use Rattle.lxtr_laws.specs.Passed.{Whole, Passed};
 ghost use Rattle.lxtr_image.specs.Blocks.{blockSize, weight, blockSum};
@@ -11,6 +12,7 @@ use lxtr_bytes::heads::HEAD_LENGTH;
 use lxtr_bytes::heads::count_at;
 use lxtr_bytes::heads::version_at;
 use lxtr_bytes::numbers::be32_at;
+use lxtr_bytes::numbers::be32_equals;
 use lxtr_spec::Found;
 
 // How many places of the map are compared at a time.
@@ -44,14 +46,32 @@ fn listed_count(image: &[u8]) -> u32
     (map_length(image) - HEAD_LENGTH as u32) / 4
 }
 
-// The label at place i, whose code is i + 1. The map is the last part of the image, so the image's length tells where it starts.
+// Where the label at place i is. The map is the last part of the image, so the image's length tells where it starts.
+fn label_position(image: &[u8], i: u32) -> usize
+    requires { ⌜ Passed (now image) ⌝ }
+    requires { ⌜ i < labelCount (now image) ⌝ }
+    ensures { λ r. ⌜ r ≡ mapAt (now (image .entry)) + 5 + 4 * i ⌝ }
+{
+    let map = image.len() - map_length(image) as usize;
+    map + HEAD_LENGTH + 4 * i as usize
+}
+
+// The label at place i, whose code is i + 1.
 pub fn label_at(image: &[u8], i: u32) -> u32
     requires { ⌜ Passed (now image) ⌝ }
     requires { ⌜ i < labelCount (now image) ⌝ }
     ensures { λ r. ⌜ r ≡ labelAt (now (image .entry)) i ⌝ }
 {
-    let map = image.len() - map_length(image) as usize;
-    be32_at(image, map + HEAD_LENGTH + 4 * i as usize)
+    be32_at(image, label_position(image, i))
+}
+
+// Whether place i has the given label. A search swaps the bytes of the given label once, instead of those of each label in the map.
+fn has_label(image: &[u8], i: u32, label: u32) -> bool
+    requires { ⌜ Passed (now image) ⌝ }
+    requires { ⌜ i < labelCount (now image) ⌝ }
+    ensures { λ r. ⌜ r ≡ eqb (labelAt (now (image .entry)) i) label ⌝ }
+{
+    be32_equals(image, label_position(image, i), label)
 }
 
 // What place k of a block adds to its sum: MATCH plus the place, counted from 1, if it has the label; otherwise nothing.
@@ -71,7 +91,7 @@ fn block_sum(image: &[u8], label: u32, i: u32) -> u32
     let mut sum: u32 = 0;
     let mut k: u32 = 0;
     while k < BLOCK_SIZE {
-        sum += weight(label_at(image, i + k) == label, k);
+        sum += weight(has_label(image, i + k, label), k);
         k += 1;
     }
     sum
@@ -87,7 +107,7 @@ fn code_from(image: &[u8], label: u32, from: u32) -> Found
     let mut i = from;
     while i < count {
         let code = i + 1;
-        if label_at(image, i) == label {
+        if has_label(image, i, label) {
             return Found::Is(code);
         }
         i = code;

@@ -24,6 +24,7 @@ pub mod Overlays
 pub mod Facts
 pub mod KeyPrefixes
 pub mod StepFacts
+pub mod PositionFacts
 pub mod Faults
 pub mod Refused
 pub mod EntryPlaces

@@ -11,7 +11,7 @@ use Rattle.lxtr_spec.specs.Numbers.{le32, be32, leBytes, beBytes, leWords, beWo
 use Rattle.lxtr_laws.specs.ByteOrders.{ByteOrder, little, big}
 
 -- a number of 32 bits is made of its four digits of eight bits
-digits : (n : ℕ) → n < 2 ^ 32 → n % 256 + n / 2 ^ 8 % 256 * 2 ^ 8 + n / 2 ^ 16 % 256 * 2 ^ 16 + n / 2 ^ 24 % 256 * 2 ^ 24 ≡ n
+pub digits : (n : ℕ) → n < 2 ^ 32 → n % 256 + n / 2 ^ 8 % 256 * 2 ^ 8 + n / 2 ^ 16 % 256 * 2 ^ 16 + n / 2 ^ 24 % 256 * 2 ^ 24 ≡ n
 digits n h = add (n % 256) (n / 2 ^ 8) (n / 2 ^ 8 % 256) (n / 2 ^ 16) (n / 2 ^ 16 % 256) (n / 2 ^ 24) (n / 2 ^ 24 % 256) (div-add-mod' n 256)
     (sym (ap (λ (q : ℕ). q * 256 + n / 2 ^ 8 % 256) (div-div-eq-div-mul n (2 ^ 8) (2 ^ 8))) ∙ div-add-mod' (n / 2 ^ 8) 256)
     (sym (ap (λ (q : ℕ). q * 256 + n / 2 ^ 16 % 256) (div-div-eq-div-mul n (2 ^ 16) (2 ^ 8))) ∙ div-add-mod' (n / 2 ^ 16) 256) (mod-eq-of-lt (div-lt-iff-lt-mul (lit< tt) .1 h))

@@ -3,7 +3,7 @@ use Prim.Native.Nat.{ℕ, _*_, _%_}
 use mathlib.Core.Path.{_≡_, refl, sym, _∙_}
 use mathlib.Core.Logic.{_↔_}
 use mathlib.Core.List.{List, []}
-use mathlib.Core.Option.{none}
+use mathlib.Core.Option.{some, none}
 use mathlib.Core.Bool.{Bool, false}
 use lib.ListN.{length, take}
 use borrow.Author.Tests.{ne-eqb}
@@ -34,6 +34,12 @@ module _ (b xs : List ℕ) (f : Found) (answer : found f ≡ walkWithin b xs) wh
   pub exact-reached : (n : ℕ) (v : Found) → f ≡ Is n → found v ≡ valueAt b n → found v ≡ exactValue b xs
   unfolding exactValue valueReached
   exact-reached n v h e = rw (found-is f n (walkWithin b xs) answer h, e)
+
+-- probe's answer at a slot
+pub slot-probed : (b : List ℕ) (n : ℕ) (v : Found) (l : Bool) → found v ≡ valueAt b n → l ≡ longerAt b n
+    → _≡_ {A = ProbeAnswer} (record { refusal = 0; value = found v; longer = l }) (probeAt b (some n))
+unfolding probeAt probeAnswer
+slot-probed b n v l e k = rw (e, k)
 
 -- r is the refusal that a call answered
 module _ (b q : List ℕ) (r : ℕ) where
@@ -92,7 +98,6 @@ module _ (b q : List ℕ) (r : ℕ) where
         unfolding probeOf probeAt unlessRefused
         probe-nowhere p h e = rw (sym known ∙ z, found-none f (walkWithin b (labelsOf q)) walked h) e
 
-        pub probe-reached : (n : ℕ) (v : Found) (l : Bool) → f ≡ Is n → found v ≡ valueAt b n → l ≡ longerAt b n
-            → _≡_ {A = ProbeAnswer} (record { refusal = 0; value = found v; longer = l }) (probeOf b q)
-        unfolding probeOf probeAt probeAnswer unlessRefused
-        probe-reached n v l h e k = rw (sym known ∙ z, found-is f n (walkWithin b (labelsOf q)) walked h, e, k)
+        pub probe-reached : (p : Probe) (n : ℕ) → f ≡ Is n → probeMeans p ≡ probeAt b (some n) → probeMeans p ≡ probeOf b q
+        unfolding probeOf unlessRefused
+        probe-reached p n h e = rw (sym known ∙ z, found-is f n (walkWithin b (labelsOf q)) walked h) e

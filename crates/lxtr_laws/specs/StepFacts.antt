@@ -55,10 +55,19 @@ none-not-some {v} = Option·none-ne-some v
 pub some-same : {m n : ℕ} → _≡_ {A = Option ℕ} (some m) (some n) → m ≡ n
 some-same e = cc
 
+some-is : (m n : ℕ) → (_≡_ {A = Option ℕ} (some m) (some n)) ↔ (m ≡ n)
+some-is m n = (some-same, ap {B = Option ℕ} some)
+
+-- two answers that give the same number, or none, are equal
+pub same-answer : (o r : Option ℕ) → ((t : ℕ) → (o ≡ some t) ↔ (r ≡ some t)) → o ≡ r
+same-answer none none h = refl
+same-answer none (some t) h = h t .1 refl
+same-answer (some t) r h = sym (h t .0 refl)
+
 -- an answer under a condition, and an answer that needs an earlier one
-cond-some : (a : Bool) (x t : ℕ) → (cond a (some x) none ≡ some t) ↔ ((a ≡ true) × (x ≡ t))
-cond-some true x t = (λ e. (refl, some-same e), λ p. ap {B = Option ℕ} some (p .1))
-cond-some false x t = (λ e. absurd (none-not-some e), λ p. absurd (false≢true (p .0)))
+pub cond-some : (a : Bool) (o : Option ℕ) (t : ℕ) → (cond a o none ≡ some t) ↔ ((a ≡ true) × (o ≡ some t))
+cond-some true o t = (λ e. (refl, e), λ p. p .1)
+cond-some false o t = (λ e. absurd (none-not-some e), λ p. absurd (false≢true (p .0)))
 
 then-some : (o : Option ℕ) (f : ℕ → Option ℕ) (t : ℕ) → (elim o as (λ _. Option ℕ) [ none ↦ none | some c ↦ f c ] ≡ some t) ↔ ((c : ℕ) × (o ≡ some c) × (f c ≡ some t))
 then-some none f t = (λ e. absurd (none-not-some e), λ p. absurd (none-not-some (p .1)))
@@ -67,7 +76,7 @@ then-some (some c) f t = (λ e. (c, refl, e), λ p. ap f (some-same (p .1)) ∙ 
 module _ (b : List ℕ) where
   pub step-is : (n c t : ℕ) → (step b n c ≡ some t) ↔ Stepped b n c t
   unfolding step hasParent
-  step-is n c t = simp (cond-some, tests) (
+  step-is n c t = simp (cond-some, some-is, tests) (
     λ ((i, (l, u)), e). record { inner = i; below = rw e at l; up = rw e at u; at = sym e },
     λ s. ((s .inner, (rw (s .at) at (s .below), rw (s .at) at (s .up))), sym (s .at)),
   )
@@ -81,7 +90,7 @@ module _ (b : List ℕ) where
 
   pub walk-empty : (t : ℕ) → (walk b 1 [] ≡ some t) ↔ (1 ≡ t)
   unfolding walk
-  walk-empty t = (some-same, ap {B = Option ℕ} some)
+  walk-empty t = some-is 1 t
 
   walk-cons : (n x : ℕ) (p : List ℕ) (t : ℕ) → (walk b n (x ∷ p) ≡ some t) ↔ ((m : ℕ) × (stepBy b n x ≡ some m) × (walk b m p ≡ some t))
   unfolding walk
@@ -116,7 +125,7 @@ module _ (b : List ℕ) where
   unfolding valueAt leafValue
   value-is n v = (
     go (hasLeaf b n) refl,
-    λ r. rw (r .flag, valueAt) (two .1 (r .slot, step-is n 0 (r .slot) .1 (r .stepped), cond-some (isLeaf b (r .slot)) (valueNumber b (r .slot)) v .1 (r .leaf, r .value))),
+    λ r. rw (r .flag, valueAt) (two .1 (r .slot, step-is n 0 (r .slot) .1 (r .stepped), cond-some (isLeaf b (r .slot)) (some (valueNumber b (r .slot))) v .1 (r .leaf, ap {B = Option ℕ} some (r .value)))),
   )
     where
       two : (elim (step b n 0) as (λ _. Option ℕ) [ none ↦ none | some t ↦ leafValue b t ] ≡ some v) ↔ ((t : ℕ) × (step b n 0 ≡ some t) × (leafValue b t ≡ some v))
@@ -128,8 +137,8 @@ module _ (b : List ℕ) where
       go false f g = absurd (none-not-some g)
       go true f g =
           let r = two .0 g in
-          let s = cond-some (isLeaf b (r .0)) (valueNumber b (r .0)) v .0 (r .2) in
-          record { flag = f; slot = r .0; stepped = step-is n 0 (r .0) .0 (r .1); leaf = s .0; value = s .1 }
+          let s = cond-some (isLeaf b (r .0)) (some (valueNumber b (r .0))) v .0 (r .2) in
+          record { flag = f; slot = r .0; stepped = step-is n 0 (r .0) .0 (r .1); leaf = s .0; value = some-same (s .1) }
 
   pub exact-is : (k : List ℕ) (v : ℕ) → (valueOf b k ≡ some v) ↔ ((n : ℕ) × (walk b 1 k ≡ some n) × Valued b n v)
   unfolding valueOf valueReached

@@ -75,7 +75,11 @@ same-test false false f g = refl
 pub outcome : (r t a : Bool) → r ≡ t → r ≡ a → t ≡ a
 outcome r t a e h = sym e ∙ h
 
+-- what holds of each branch, by its outcome, holds of the choice
+pub cond-holds : {A : Type 0} (P : A → Type 0) (t : Bool) {x y : A} → (t ≡ true → P x) → (t ≡ false → P y) → P (cond t x y)
+cond-holds P true f g = f refl
+cond-holds P false f g = g refl
+
 -- a bound of both branches is a bound of the choice
 pub cond-within : (t : Bool) (m n most : ℕ) → m ≤ most → n ≤ most → cond t m n ≤ most
-cond-within true m n most h l = h
-cond-within false m n most h l = l
+cond-within t m n most h l = cond-holds (λ k. k ≤ most) t (λ _. h) (λ _. l)

@@ -10,7 +10,7 @@ use native.Mathlib.Numerals.{add-one}
 use native.Mathlib.Omega.{arith}
 use lib.ListN.{length, getD, take, drop, take-append-drop}
 use lib.Dec.{ltb}
-use lib.Seq.{take-suc, take-take, take-all, take-length}
+use lib.Seq.{take-suc, take-take, take-all, take-length, take-append-le}
 use Rattle.lxtr_spec.specs.Image.{slotCount}
 use Rattle.lxtr_spec.specs.Labels.{maxLabels}
 use Rattle.lxtr_spec.specs.Walks.{stepBy, walk, walkWithin}
@@ -19,7 +19,7 @@ use Rattle.lxtr_spec.specs.declared.Found.{Found}
 use Rattle.lxtr_spec.specs.declared.Found.the-variants.{Is, Nothing}
 use borrow.Author.Tests.{lt-ltb, le-ltb, ltb-false}
 use Rattle.lxtr_laws.specs.Passed.{Passed}
-use Rattle.lxtr_laws.specs.KeyPrefixes.{Last, empty, snoc, last}
+use Rattle.lxtr_laws.specs.KeyPrefixes.{Last, empty, snoc, last, length-snoc}
 use Rattle.lxtr_laws.specs.Stepping.{found-is, found-none}
 use Rattle.lxtr_laws.specs.StepFacts.{none-not-some, some-same, step-by-is, walk-empty, walk-append, walk-snoc}
 
@@ -76,6 +76,18 @@ module _ (b xs : List ℕ) where
 walk-below : (b p : List ℕ) → Passed b → Last p → (t : ℕ) → walk b 1 p ≡ some t → t < slotCount b
 walk-below b p ok empty t e = omega (arith, walk-empty b t .0 e, ok .whole .sized .slots-from)
 walk-below b p ok (snoc q x l) t e = walk-snoc b q x t .0 e .stepped .below
+
+-- all labels, and the same front part of a list that is longer by one label
+module _ (b xs : List ℕ) where
+  pub walked-whole : Passed b → (t : ℕ) → walk b 1 xs ≡ some t → Walked b xs (length xs) t
+  walked-whole ok t e = record { so-far = omega arith; below = walk-below b xs ok (last xs) t e; reached = rw take-length e }
+
+  pub walked-part : (x k t : ℕ) → k ≤ length xs → Walked b (xs ++ x ∷ []) k t ↔ Walked b xs k t
+  walked-part x k t h =
+      let same = ap (walk b 1) (take-append-le k xs (x ∷ []) h) in (
+        λ w. record { so-far = h; below = w .below; reached = sym same ∙ w .reached },
+        λ w. record { so-far = omega (arith, length-snoc xs x); below = w .below; reached = same ∙ w .reached },
+      )
 
 -- the walk within the limit
 module _ (b xs : List ℕ) where

@@ -1,13 +1,15 @@
 // Searches LXTR images: exact match, prefixes, longest match and probe, for any bytes as image and query. The searches walk every
-// image that passes refusals 1 to 8, whether or not the check would accept it. Any caller may use them; `matches` is for
-// `lxtr_c`.
+// image that passes refusals 1 to 8, whether or not the check would accept it. Any caller may use them; `matches`,
+// `nothing_found` and `found_at` are for the crates that use this one.
 pub mod matches; // the prefixes of a query that have a value
 
 ghost use mathlib.Core.Path.{_≡_};
-ghost use mathlib.Core.Option.{none};
+ghost use mathlib.Core.Option.{some, none};
 ghost use mathlib.Core.Bool.{false};
-ghost use Rattle.lxtr_spec.specs.Searches.{exactValue, exactOf, prefixesOf, longestOf, probeAnswer, probeOf};
+ghost use Prim.Native.Nat.{_<_};
+ghost use Rattle.lxtr_spec.specs.Searches.{exactValue, exactOf, prefixesOf, longestOf, probeAnswer, probeAt, probeOf};
 ghost use Rattle.lxtr_spec.specs.Labels.{labelsOf};
+ghost use Rattle.lxtr_spec.specs.Image.{slotCount};
 ghost use Rattle.lxtr_spec.specs.Answers.{found, exactMeans, probeMeans};
 ghost use Rattle.lxtr_laws.specs.Passed.{Passed};
 use crate::matches::longest_match;
@@ -81,13 +83,26 @@ pub fn longest<'a>(image: &[u8], query: &'a [u8], refusal: &mut u8) -> &'a [u8]
 }
 
 // Probe's answer after a refusal, and when the walk fails: no value, no longer keys.
-fn nothing_found(refusal: u8) -> Probe
+pub fn nothing_found(refusal: u8) -> Probe
     ensures { λ r. ⌜ probeMeans r ≡ probeAnswer refusal none false ⌝ }
 {
     Probe {
         refusal,
         value: Found::Nothing,
         longer: false,
+    }
+}
+
+// Probe's answer at slot n.
+pub fn found_at(image: &[u8], n: u32) -> Probe
+    requires { ⌜ Passed (now image) ⌝ }
+    requires { ⌜ n < slotCount (now image) ⌝ }
+    ensures { λ r. ⌜ probeMeans r ≡ probeAt (now (image .entry)) (some n) ⌝ }
+{
+    Probe {
+        refusal: 0,
+        value: value_at(image, n),
+        longer: longer_at(image, n),
     }
 }
 
@@ -102,9 +117,5 @@ pub fn probe(image: &[u8], query: &[u8]) -> Probe
     let Found::Is(n) = walk_within(image, query) else {
         return nothing_found(0);
     };
-    Probe {
-        refusal: 0,
-        value: value_at(image, n),
-        longer: longer_at(image, n),
-    }
+    found_at(image, n)
 }

@@ -1,5 +1,5 @@
 -- Document 01, "The searches": the 64-bit number that an operation answers to a host program in C.
-use Prim.Native.Nat.{ℕ, _+_, _*_, _^_}
+use Prim.Native.Nat.{ℕ, _+_, _*_, _/_, _%_, _^_}
 use mathlib.Core.List.{List, [], _∷_, _++_}
 use mathlib.Core.Option.{Option, some, none}
 use mathlib.Core.Bool.{Bool, true, false, cond}
@@ -10,6 +10,7 @@ use Rattle.lxtr_spec.specs.Refusals.{unlessRefused, checkOf}
 use Rattle.lxtr_spec.specs.FaultPlaces.{faultOf}
 use Rattle.lxtr_spec.specs.HighestValues.{highestOf}
 use Rattle.lxtr_spec.specs.Searches.{searchRefusal, exactOf, prefixesOf, longestLength, probeOf}
+use Rattle.lxtr_spec.specs.Positions.{TypingPosition, freshPosition, pushOf, backOf, positionProbeOf}
 use Rattle.lxtr_spec.specs.Completions.{completionOf}
 use Rattle.lxtr_spec.specs.Builds.{buildOf}
 use Rattle.lxtr_spec.specs.declared.Fault.{Fault}
@@ -115,3 +116,25 @@ builtNumber a = hostNumber (a .refusal) false false (a .length)
 unfoldable pub hostBuildOf : List ℕ → List ℕ → List ℕ → HostBuild
 hostBuildOf keys work out =
     record { number = builtNumber (buildOf keys work out .answer); output = buildOf keys work out .output; work = buildOf keys work out .work }
+
+-- Not in document 02: for C, a typing position of request 3 is one 64-bit number, and each such number is one position.
+unfoldable pub positionNumber : TypingPosition → ℕ
+positionNumber p = p .slot + p .walked * 2 ^ 32 + p .typed * 2 ^ 48
+
+unfoldable pub positionOf : ℕ → TypingPosition
+positionOf n = record { slot = n % 2 ^ 32; walked = n / 2 ^ 32 % 2 ^ 16; typed = n / 2 ^ 48 }
+
+-- Push and take back answer the next position, or after a refusal the one that was passed. The probe of a position answers the number
+-- that probe answers for the labels typed so far.
+unfoldable pub hostFresh : ℕ
+hostFresh = positionNumber freshPosition
+
+unfoldable pub hostPushOf : List ℕ → ℕ → ℕ → ℕ
+hostPushOf b n x = positionNumber (pushOf b (positionOf n) x .position)
+
+unfoldable pub hostBackOf : List ℕ → ℕ → ℕ
+hostBackOf b n = positionNumber (backOf b (positionOf n) .position)
+
+unfoldable pub positionProbeNumber : List ℕ → ℕ → ℕ
+positionProbeNumber b n =
+    valueNumbered (positionProbeOf b (positionOf n) .refusal) (positionProbeOf b (positionOf n) .longer) (positionProbeOf b (positionOf n) .value)

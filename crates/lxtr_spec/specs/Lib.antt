@@ -1,5 +1,5 @@
--- Document 01 as definitions, without proofs. Each file names its section. All of them compute, except Sets and Meaning, which state
--- what has to hold.
+-- Document 01 as definitions, without proofs, with requests 2 and 3 of document 02. Each file names its section. All of them compute,
+-- except Sets and Meaning, which state what has to hold.
 pub mod Ranges
 pub mod Numbers
 pub mod Labels
@@ -10,6 +10,7 @@ pub mod FaultPlaces
 pub mod HighestValues
 pub mod Walks
 pub mod Searches
+pub mod Positions
 pub mod Completions
 pub mod KeyLists
 pub mod CodeMaps

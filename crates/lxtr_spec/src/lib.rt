@@ -1,4 +1,5 @@
-// The answer types, the limits and the refusal numbers. Their meaning is defined in specs/, which holds document 01 as definitions.
+// The answer types, the limits and the refusal numbers. Their meaning is defined in specs/, which holds document 01, with requests 2
+// and 3 of document 02, as definitions.
 pub mod refusals; // the number of each refusal
 
 // The largest number of labels in a key, and the number of possible lengths that follows from it.
@@ -17,6 +18,9 @@ pub const MAX_LISTED: usize = 4095;
 pub const MAX_KEYS: usize = 32768;
 
 pub const BASE_COUNT: usize = 65536;
+
+// A typing position counts at most MAX_TYPED labels.
+pub const MAX_TYPED: u16 = 255;
 
 // A value number, a code or a slot; or none.
 pub enum Found {

@@ -1,5 +1,5 @@
 // The walk over an image that passed refusals 1 to 8: one step, the walk of a query, and what is found at its end; also the
-// refusals that come before it. The functions are for the search crates. All but `search_refusal` require what its answer 0
+// refusals that come before it. The functions are for the crates that use this one. All but `search_refusal` require what its answer 0
 // guarantees.
 ghost use mathlib.Core.Path.{_≡_};
 ghost use Prim.Native.Nat.{_<_};

@@ -18,5 +18,4 @@ probe-spec =
     (λ c κs. search needs)
     (λ c. search probe-nowhere)
     (λ c κs. (search search-passed, search (within-below, search-passed)))
-    (λ c κs. (search search-passed, search (within-below, search-passed)))
     (λ c. search probe-reached))

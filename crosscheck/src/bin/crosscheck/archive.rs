@@ -3,9 +3,11 @@
 use crate::call::{number_of_text, Call};
 use crate::functions::{
     lxtr_build, lxtr_check, lxtr_complete, lxtr_exact, lxtr_fault, lxtr_highest, lxtr_longest,
+    lxtr_position_back, lxtr_position_fresh, lxtr_position_probe, lxtr_position_push,
     lxtr_prefixes, lxtr_probe, lxtr_romaji_finish, lxtr_romaji_type,
 };
 use crate::lent::{Lent, Parts};
+use crosscheck::position::Move;
 use std::io::Write;
 use std::path::PathBuf;
 use std::process::{Command, Stdio};
@@ -54,10 +56,20 @@ pub struct Answered {
     pub inputs_intact: bool,
 }
 
+/// What the archive makes of a number as a typing position.
+pub struct Moved {
+    pub pushed: u64,
+    pub back: u64,
+    pub probed: u64,
+    pub inputs_intact: bool,
+}
+
 #[derive(Default)]
 pub struct Archive {
     inputs: [InputCopy; 3],
     calls: u64,
+    /// The typing positions of the last call that made moves, the fresh one first.
+    pub positions: Vec<u64>,
 }
 
 impl Archive {
@@ -77,8 +89,12 @@ impl Archive {
     fn call(&mut self, call: &Call, lent: &mut Lent) -> u64 {
         self.calls += 1;
         let null = self.calls.is_multiple_of(2);
-        let [(a, a_len), (b, b_len), (c, c_len)] =
+        let inputs =
             self.inputs.each_mut().map(|copy| (or_null(copy.pointer(), copy.len, null), copy.len));
+        if let Call::Moves { moves, .. } = call {
+            return lent.put_numbers(&self.moves(inputs, moves));
+        }
+        let [(a, a_len), (b, b_len), (c, c_len)] = inputs;
         let Parts { bytes, words, state } = lent.parts();
         let (bytes_len, words_len, state_len) = (bytes.len(), words.len(), state.len());
         let bytes = or_null(bytes.as_mut_ptr(), bytes_len, null);
@@ -102,9 +118,42 @@ impl Archive {
                     lxtr_romaji_finish(a, a_len, b, b_len, state, state_len, bytes, bytes_len)
                 }
                 Call::Build { .. } => lxtr_build(a, a_len, words, words_len, bytes, bytes_len),
+                Call::Moves { .. } => unreachable!("moves are made one by one"),
                 Call::List { .. } => unreachable!("the program is run, not called"),
             }
         }
+    }
+
+    /// Makes moves from a fresh position. Returns what it answers before them, over the first
+    /// image, and after each.
+    fn moves(&mut self, images: [(*mut u8, usize); 3], moves: &[(usize, Move)]) -> Vec<u64> {
+        // SAFETY of every call below: each pointer is valid for its length.
+        let mut position = unsafe { lxtr_position_fresh() };
+        let (image, len) = images[0];
+        let mut answers = vec![unsafe { lxtr_position_probe(image, len, position) }];
+        self.positions = vec![position];
+        for (over, next) in moves {
+            let (image, len) = images[*over];
+            position = match next {
+                Move::Push(label) => unsafe { lxtr_position_push(image, len, position, *label) },
+                Move::Back => unsafe { lxtr_position_back(image, len, position) },
+            };
+            self.positions.push(position);
+            answers.push(unsafe { lxtr_position_probe(image, len, position) });
+        }
+        answers
+    }
+
+    /// Both moves and the probe of any number as a position.
+    pub fn any_position(&mut self, image: &[u8], number: u64, label: u32) -> Moved {
+        let copy = &mut self.inputs[0];
+        copy.hold(image);
+        let (pointer, len) = (copy.pointer(), image.len());
+        // SAFETY of every call below: the pointer is valid for its length.
+        let pushed = unsafe { lxtr_position_push(pointer, len, number, label) };
+        let back = unsafe { lxtr_position_back(pointer, len, number) };
+        let probed = unsafe { lxtr_position_probe(pointer, len, number) };
+        Moved { pushed, back, probed, inputs_intact: copy.is_intact(image) }
     }
 }
 

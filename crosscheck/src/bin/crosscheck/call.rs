@@ -2,6 +2,7 @@
 //! independent implementation answers it.
 
 use crate::lent::{Lent, Parts};
+use crosscheck::position::Move;
 use crosscheck::rules::Rules;
 use crosscheck::{answers, listing, romaji};
 
@@ -14,6 +15,9 @@ pub enum Function {
     Probe,
     Longest,
     Prefixes,
+    Push,
+    Back,
+    Position,
     Complete,
     Type,
     Finish,
@@ -22,7 +26,7 @@ pub enum Function {
 }
 
 impl Function {
-    pub const ALL: [Function; 12] = [
+    pub const ALL: [Function; 15] = [
         Function::Check,
         Function::Fault,
         Function::Highest,
@@ -30,6 +34,9 @@ impl Function {
         Function::Probe,
         Function::Longest,
         Function::Prefixes,
+        Function::Push,
+        Function::Back,
+        Function::Position,
         Function::Complete,
         Function::Type,
         Function::Finish,
@@ -39,16 +46,18 @@ impl Function {
 
     pub fn name(self) -> &'static str {
         [
-            "check", "fault", "highest", "exact", "probe", "longest", "prefixes", "complete",
-            "type", "finish", "build", "list",
+            "check", "fault", "highest", "exact", "probe", "longest", "prefixes", "push", "back",
+            "position", "complete", "type", "finish", "build", "list",
         ][self as usize]
     }
 
-    /// Whether this function can give this refusal.
+    /// Whether this function can give this refusal. A move does not tell it, but the probe after it
+    /// does.
     pub fn can_refuse(self, number: usize) -> bool {
         match self {
             Function::Check | Function::Highest => (1..=12).contains(&number),
             Function::Fault => (9..=12).contains(&number),
+            Function::Push | Function::Back | Function::Position => (1..=8).contains(&number),
             Function::Complete => (1..=14).contains(&number),
             Function::Type | Function::Finish => {
                 (1..=12).contains(&number) || [24, 25, 29].contains(&number)
@@ -60,7 +69,12 @@ impl Function {
     }
 }
 
-/// A call with its inputs, the sizes of the memory it is lent, and what a lent state holds.
+/// The image that is typed with, bytes that 1 to 8 refuse, and an image with fewer slots.
+pub type Images<'a> = [&'a [u8]; 3];
+
+/// A call with its inputs, the sizes of the memory it is lent, and what a lent state holds. Moves
+/// of a typing position begin with a fresh one; each is made over the image whose index it has, and
+/// the probes before and after them are put into lent bytes.
 #[derive(Clone, Copy)]
 pub enum Call<'a> {
     Check { image: &'a [u8] },
@@ -70,6 +84,7 @@ pub enum Call<'a> {
     Probe { image: &'a [u8], query: &'a [u8] },
     Longest { image: &'a [u8], query: &'a [u8] },
     Prefixes { image: &'a [u8], query: &'a [u8], places: usize },
+    Moves { images: Images<'a>, moves: &'a [(usize, Move)] },
     Complete { image: &'a [u8], prefix: &'a [u8], room: usize },
     Type { image: &'a [u8], kana: &'a [u8], state: &'a [u8], typed: &'a [u8], room: usize },
     Finish { image: &'a [u8], kana: &'a [u8], state: &'a [u8], room: usize },
@@ -87,6 +102,7 @@ impl<'a> Call<'a> {
             Call::Probe { .. } => Function::Probe,
             Call::Longest { .. } => Function::Longest,
             Call::Prefixes { .. } => Function::Prefixes,
+            Call::Moves { .. } => Function::Position,
             Call::Complete { .. } => Function::Complete,
             Call::Type { .. } => Function::Type,
             Call::Finish { .. } => Function::Finish,
@@ -105,6 +121,7 @@ impl<'a> Call<'a> {
             | Call::Probe { image, query }
             | Call::Longest { image, query } => [image, query, &[]],
             Call::Prefixes { image, query, .. } => [image, query, &[]],
+            Call::Moves { images, .. } => images,
             Call::Complete { image, prefix, .. } => [image, prefix, &[]],
             Call::Type { image, kana, typed, .. } => [image, kana, typed],
             Call::Finish { image, kana, .. } => [image, kana, &[]],
@@ -117,6 +134,7 @@ impl<'a> Call<'a> {
     pub fn prepare(&self, lent: &mut Lent) {
         match *self {
             Call::Prefixes { places, .. } => lent.prepare(0, places),
+            Call::Moves { moves, .. } => lent.prepare(8 * (moves.len() + 1), 0),
             Call::Complete { room, .. } => lent.prepare(room, 0),
             Call::Type { state, room, .. } | Call::Finish { state, room, .. } => {
                 lent.prepare(room, 0);
@@ -140,6 +158,9 @@ impl<'a> Call<'a> {
             Call::Prefixes { image, query, .. } => {
                 answers::prefixes(rules, image, query, lent.words())
             }
+            Call::Moves { images, moves } => {
+                lent.put_numbers(&answers::moves(rules, &images, moves))
+            }
             Call::Complete { image, prefix, .. } => {
                 answers::complete(rules, image, prefix, lent.bytes())
             }
@@ -161,11 +182,14 @@ impl<'a> Call<'a> {
         }
     }
 
-    /// The front of the inputs in hexadecimal, the lent sizes, and the state.
+    /// The front of the inputs in hexadecimal, the lent sizes, and the state or the moves.
     pub fn describe(&self) -> String {
         let inputs = self.inputs().map(short).join(" and ");
         let sizes = match *self {
             Call::Prefixes { places, .. } => format!(", {places} words of places"),
+            Call::Moves { moves, .. } => {
+                format!(", moves{}", moves.iter().map(move_text).collect::<String>())
+            }
             Call::Complete { room, .. } => format!(", {room} bytes of room"),
             Call::Type { state, room, .. } | Call::Finish { state, room, .. } => {
                 format!(", state {}, {room} bytes of room", short(state))
@@ -189,6 +213,14 @@ fn typing_memory(lent: &mut Lent) -> romaji::Lent<'_> {
 pub fn number_of_text(text: &str) -> u64 {
     let number = text.strip_prefix("refused ").and_then(|rest| rest.trim_end().parse::<u64>().ok());
     number.map_or(0, |number| number << 40)
+}
+
+/// The label that is pushed, or a minus, and the image.
+fn move_text((over, next): &(usize, Move)) -> String {
+    match next {
+        Move::Push(label) => format!(" {label:X}@{over}"),
+        Move::Back => format!(" -@{over}"),
+    }
 }
 
 fn short(bytes: &[u8]) -> String {

@@ -2,13 +2,15 @@
 //! refusals seen, and which wrong variants were noticed.
 
 use crate::archive::{Answered, Archive};
-use crate::call::{Call, Function};
+use crate::call::{Call, Function, Images};
 use crate::lent::{Lent, Parts};
 use crosscheck::answers::value_number;
-use crosscheck::common::query_of;
+use crosscheck::common::{query_of, Refusal};
 use crosscheck::image::Image;
 use crosscheck::oracle::{self, Pair};
+use crosscheck::position::{replay, Move};
 use crosscheck::rules::{Rules, Wrong};
+use std::collections::HashMap;
 
 const SHOWN_DIFFERENCES: u64 = 10;
 /// One more than the highest number of a refusal.
@@ -90,10 +92,9 @@ impl Comparison {
     fn score(&mut self, call: &Call, answered: &Answered, expected: u64) -> bool {
         let answer = answered.answer;
         let same = answered.inputs_intact && answer == expected && self.real == self.expected;
-        self.compared += 1;
-        let refusal = (answer >> 40) as usize;
-        if let Some(count) = self.seen[call.function() as usize].get_mut(refusal) {
-            *count += 1;
+        match call {
+            Call::Moves { moves, .. } => self.count_moves(moves),
+            _ => self.count(call.function(), answer),
         }
         if call.function() == Function::Fault {
             self.list_faults[(answer >> 34 & 7) as usize] += 1;
@@ -103,6 +104,31 @@ impl Comparison {
             self.show(call, answer, expected);
         }
         same
+    }
+
+    /// Counts one answer.
+    fn count(&mut self, function: Function, answer: u64) {
+        self.compared += 1;
+        self.see(function, answer);
+    }
+
+    fn see(&mut self, function: Function, answer: u64) {
+        if let Some(count) = self.seen[function as usize].get_mut((answer >> 40) as usize) {
+            *count += 1;
+        }
+    }
+
+    /// Counts the answers after the moves of a call, and what each of them says of its move.
+    fn count_moves(&mut self, moves: &[(usize, Move)]) {
+        let mut answers = self.real.numbers().into_iter();
+        self.count(Function::Position, answers.next().unwrap_or_default());
+        for ((_, next), answer) in moves.iter().zip(answers) {
+            self.count(Function::Position, answer);
+            match next {
+                Move::Push(_) => self.see(Function::Push, answer),
+                Move::Back => self.see(Function::Back, answer),
+            }
+        }
     }
 
     /// Counts and shows a requirement on the archive's answers, besides equality,
@@ -135,6 +161,37 @@ impl Comparison {
             if wrong != answer || self.expected != self.real {
                 variant.noticed = Some((self.compared, call.function()));
             }
+        }
+    }
+
+    /// Compares the answers of a typing position before moves and after each of them. Moves that
+    /// leave the same labels must lead to the same position.
+    pub fn moves(&mut self, images: Images, moves: &[(usize, Move)]) {
+        self.call(Call::Moves { images, moves });
+        let images = images.map(|image| Image::parse(Rules::DOCUMENT, image));
+        let positions = replay(Rules::DOCUMENT, &images, moves);
+        let mut numbers = HashMap::new();
+        let mut known =
+            |labels: Vec<u32>, number: u64| *numbers.entry(labels).or_insert(number) == number;
+        let mut both = positions.iter().zip(&self.archive.positions);
+        let same = both.all(|(position, number)| known(position.labels().to_vec(), *number));
+        self.require(same, "moves that leave the same labels lead to different positions");
+    }
+
+    /// The archive's position after the last moves.
+    pub fn last_position(&self) -> u64 {
+        self.archive.positions.last().copied().unwrap_or_default()
+    }
+
+    /// Any number as a typing position has to be answered, and a refused image must not change it.
+    pub fn any_position(&mut self, image: &[u8], number: u64, label: u32) {
+        let moved = self.archive.any_position(image, number, label);
+        self.require(moved.inputs_intact, "an image changes under a typing position");
+        if let Err(Refusal(refusal)) = Image::parse(Rules::DOCUMENT, image) {
+            let stays = moved.pushed == number && moved.back == number;
+            self.require(stays, "a refused move changes the position");
+            let told = moved.probed == u64::from(refusal) << 40;
+            self.require(told, "a typing position gives another refusal");
         }
     }
 

@@ -33,6 +33,11 @@ extern "C" {
         places: *mut u32,
         places_len: usize,
     ) -> u64;
+    pub fn lxtr_position_fresh() -> u64;
+    pub fn lxtr_position_push(image: *const u8, image_len: usize, position: u64, label: u32)
+        -> u64;
+    pub fn lxtr_position_back(image: *const u8, image_len: usize, position: u64) -> u64;
+    pub fn lxtr_position_probe(image: *const u8, image_len: usize, position: u64) -> u64;
     pub fn lxtr_complete(
         image: *const u8,
         image_len: usize,

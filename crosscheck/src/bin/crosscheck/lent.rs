@@ -80,6 +80,21 @@ impl Lent {
         self.bytes().copy_from_slice(text);
     }
 
+    /// Puts numbers of eight bytes each into the lent bytes, as many as fit. Returns the last.
+    pub fn put_numbers(&mut self, numbers: &[u64]) -> u64 {
+        let places = self.bytes().chunks_exact_mut(8);
+        places
+            .zip(numbers)
+            .for_each(|(place, number)| place.copy_from_slice(&number.to_le_bytes()));
+        numbers.last().copied().unwrap_or_default()
+    }
+
+    /// The lent bytes as numbers of eight bytes each.
+    pub fn numbers(&mut self) -> Vec<u64> {
+        let number = |place: &[u8]| place.try_into().map_or(0, u64::from_le_bytes);
+        self.bytes().chunks_exact(8).map(number).collect()
+    }
+
     /// Where and how two memories first differ, with places counted from the lent slice.
     pub fn first_difference(&self, other: &Lent) -> Option<String> {
         let at = |place: usize, from: usize| place as isize - from as isize;

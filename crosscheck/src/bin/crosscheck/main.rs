@@ -2,10 +2,12 @@
 //!
 //! Every comparison is one call of a library function, or one run of the listing
 //! program, and the independent answer to it: the 64-bit number, every byte and
-//! word of lent memory with guard zones around it, or the program's text. Besides
-//! that, the check, the highest value and the completion of the empty prefix are
-//! compared with the set oracle, typing in parts is compared with typing at once,
-//! and wrong variants of the independent implementation take part in the same
+//! word of lent memory with guard zones around it, or the program's text. Of a
+//! typing position, whose number is not specified, the answer after each move is
+//! compared. Besides that, the check, the highest value and the completion of the
+//! empty prefix are compared with the set oracle, typing in parts is compared with
+//! typing at once, a typing position must be the same whenever its labels are, and
+//! wrong variants of the independent implementation take part in the same
 //! comparisons: each must be noticed by a difference.
 //!
 //! Run with `cargo run --release --offline`, in this package's folder, after the
@@ -22,6 +24,7 @@ mod explore;
 mod functions;
 mod keysets;
 mod lent;
+mod moves;
 mod placer;
 mod queries;
 mod stages;
@@ -30,8 +33,8 @@ mod tables;
 use comparison::Comparison;
 use crosscheck::random::Random;
 use stages::{
-    bad_lists, damaged, edges, examples, large, lists, placed, program, states, tiny, typing,
-    typing_examples, wild,
+    bad_lists, damaged, edges, examples, large, lists, placed, position_examples, positions,
+    program, states, tiny, typing, typing_examples, wild,
 };
 use std::process::ExitCode;
 use std::time::Instant;
@@ -51,11 +54,12 @@ fn main() -> ExitCode {
         let (before, start) = (comparison.enter(name), Instant::now());
         run(&mut comparison, &mut random);
         let (compared, seconds) = (comparison.compared - before, start.elapsed().as_secs_f64());
-        println!("{name:<16} {compared:>8} comparisons {seconds:>6.1} s");
+        println!("{name:<17} {compared:>8} comparisons {seconds:>6.1} s");
     };
     stage("examples", &|comparison, _| examples::run(comparison));
     stage("typing examples", &|comparison, _| typing_examples::run(comparison));
     stage("any states", &|comparison, random| states::run(comparison, random, amount));
+    stage("position examples", &position_examples::run);
     stage("all small ones", &|comparison, _| tiny::run(comparison));
     stage("malformed lists", &|comparison, random| bad_lists::run(comparison, random, amount));
     stage("wild images", &|comparison, random| wild::run(comparison, random, amount));
@@ -64,6 +68,7 @@ fn main() -> ExitCode {
     stage("key lists", &|comparison, random| lists::run(comparison, random, amount));
     stage("limits", &edges::run);
     stage("typing", &|comparison, random| typing::run(comparison, random, amount));
+    stage("positions", &|comparison, random| positions::run(comparison, random, amount));
     stage("large lists", &large::run);
     stage("program", &|comparison, random| program::run(comparison, random, amount));
     let (passed, failed) = comparison.report();

@@ -1,6 +1,6 @@
 //! A second placer with random bases, so that an image of a set has other slots
-//! and codes than the builder's, unused labels and spare slots; and images whose
-//! lists agree with parents that never reach slot 1.
+//! and codes than the builder's, unused labels and spare slots; images whose lists
+//! agree with parents that never reach slot 1; and rings of slots.
 
 use crosscheck::common::SLOTS;
 use crosscheck::image::{CodeMap, Image, Node, TOP_BIT};
@@ -111,17 +111,23 @@ impl Slots {
 /// Adds slots that are each other's parents in a ring, with ends on some of
 /// them. Slots and lists stay right, yet none of the new slots reaches slot 1.
 pub fn add_ring(random: &mut Random, image: &mut Image, length: usize) {
-    let (first, codes) = (image.nodes.len(), image.map.len());
+    let first = image.nodes.len();
     image.nodes.resize(first + length, Node::default());
-    for at in 0..length {
-        let next = first + (at + 1) % length;
-        let base = (next ^ random.between(1, codes)) as u32;
-        image.nodes[first + at].base = base;
-        image.nodes[next].check = (first + at) as u32;
+    let slots: Vec<usize> = (first..first + length).collect();
+    link_ring(random, image, &slots, 2);
+    image.relist();
+}
+
+/// Makes each slot the parent of the next and the last one that of the first. Some of them get an
+/// end, where its slot is free and not below `least`.
+pub fn link_ring(random: &mut Random, image: &mut Image, slots: &[usize], least: usize) {
+    for (&slot, &next) in slots.iter().zip(slots.iter().cycle().skip(1)) {
+        image.nodes[slot].base = (next ^ random.between(1, image.map.len())) as u32;
+        image.nodes[next].check = slot as u32;
     }
-    for slot in first..first + length {
+    for &slot in slots {
         let end = image.nodes[slot].base as usize;
-        if end < 2 || random.one_in(3) {
+        if end < least || slots.contains(&end) || random.one_in(3) {
             continue;
         }
         image.nodes.resize(image.nodes.len().max(end + 1), Node::default());
@@ -130,7 +136,6 @@ pub fn add_ring(random: &mut Random, image: &mut Image, length: usize) {
             image.nodes[slot].check |= TOP_BIT;
         }
     }
-    image.relist();
 }
 
 /// Moves a slot to another parent where the code allows it, and keeps the lists

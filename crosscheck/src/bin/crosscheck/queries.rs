@@ -52,7 +52,7 @@ fn any_labels(random: &mut Random, image: &Image, keys: &[Key]) -> Vec<u32> {
 }
 
 /// A label that is mostly listed.
-fn any_label(random: &mut Random, image: &Image) -> u32 {
+pub fn any_label(random: &mut Random, image: &Image) -> u32 {
     match random.below(8) {
         0 => random.pick(&EDGE_LABELS),
         1 => random.pick(&NO_SCALARS),
@@ -80,7 +80,7 @@ pub fn walk(random: &mut Random, image: &Image, length: usize) -> Vec<u32> {
 }
 
 /// Codes by which a step exists; only some of them if the map lists many labels.
-fn steps_from(random: &mut Random, image: &Image, slot: u32) -> Vec<u32> {
+pub fn steps_from(random: &mut Random, image: &Image, slot: u32) -> Vec<u32> {
     let (codes, base) = (image.map.len() as u32, image.node(slot).low_base());
     let step = |code: &u32| {
         image.nodes.get((base ^ code) as usize).is_some_and(|node| node.parent() == slot)

@@ -26,11 +26,11 @@ pub fn run(comparison: &mut Comparison) {
     changed_examples(comparison);
 }
 
-fn n_na() -> Vec<Key> {
+pub fn n_na() -> Vec<Key> {
     vec![vec![0x6E], vec![0x6E, 0x61]]
 }
 
-fn built(keys: &[Key]) -> Image {
+pub fn built(keys: &[Key]) -> Image {
     image_of(Rules::DOCUMENT, &to_bytes(keys), 64).expect("the example builds")
 }
 

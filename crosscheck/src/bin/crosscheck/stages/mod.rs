@@ -7,6 +7,8 @@ pub mod examples;
 pub mod large;
 pub mod lists;
 pub mod placed;
+pub mod position_examples;
+pub mod positions;
 pub mod program;
 pub mod states;
 pub mod tiny;

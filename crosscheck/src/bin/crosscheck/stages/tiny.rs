@@ -11,6 +11,7 @@ use crosscheck::builder::image_of;
 use crosscheck::common::query_of;
 use crosscheck::image::{CodeMap, Image, Lists, Node, TOP_BIT};
 use crosscheck::keylist::{to_bytes, Key};
+use crosscheck::position::Move;
 use crosscheck::rules::Rules;
 
 pub fn run(comparison: &mut Comparison) {
@@ -36,6 +37,7 @@ fn every_byte_changed(comparison: &mut Comparison, image: &[u8]) {
                 comparison.call(Call::Complete { image: &changed, prefix: &query[..4], room: 60 });
                 comparison.call(Call::Complete { image: &changed, prefix: &query[..3], room: 4 });
                 type_na(comparison, &changed);
+                move_over(comparison, image, &changed);
             }
         }
     }
@@ -57,11 +59,12 @@ fn two_bytes_changed(comparison: &mut Comparison, image: &[u8]) {
 
 fn every_length(comparison: &mut Comparison, image: &[u8]) {
     for length in 0..=image.len() {
-        let image = &image[..length];
-        comparison.image(image);
-        search(comparison, image, &query_of(&[0x6E, 0x61]), PLACE_WORDS);
-        comparison.call(Call::Complete { image, prefix: &[], room: 60 });
-        type_na(comparison, image);
+        let front = &image[..length];
+        comparison.image(front);
+        search(comparison, front, &query_of(&[0x6E, 0x61]), PLACE_WORDS);
+        comparison.call(Call::Complete { image: front, prefix: &[], room: 60 });
+        type_na(comparison, front);
+        move_over(comparison, image, front);
     }
 }
 
@@ -70,6 +73,15 @@ fn type_na(comparison: &mut Comparison, image: &[u8]) {
     let (kana, state) = (&kana_of(&[vec![0x3093], vec![0x306A]])[..], &state_of(b"n")[..]);
     comparison.call(Call::Type { image, kana, state, typed: b"a", room: 9 });
     comparison.call(Call::Finish { image, kana, state, room: 9 });
+}
+
+/// Moves of a typing position over bytes; if these are refused, also between moves over an image.
+fn move_over(comparison: &mut Comparison, image: &[u8], bytes: &[u8]) {
+    let (n, a) = (Move::Push(0x6E), Move::Push(0x61));
+    comparison.moves([bytes, &[], &[]], &[n, a, Move::Back, Move::Back].map(|next| (0, next)));
+    if Image::parse(Rules::DOCUMENT, bytes).is_err() {
+        comparison.moves([image, bytes, &[]], &[(0, n), (1, a), (1, Move::Back), (0, a)]);
+    }
 }
 
 /// Slots 1 and 2 over a few words, with lists right and wrong.

@@ -40,7 +40,7 @@ fn long_walk(random: &mut Random, image: &Image) -> Vec<u32> {
     walk(random, image, length)
 }
 
-fn wild(random: &mut Random) -> Image {
+pub fn wild(random: &mut Random) -> Image {
     let slots = random.between(2, 12);
     let labels = (0..random.below(6)).map(|_| wild_label(random)).collect();
     let map = CodeMap::new(Rules::DOCUMENT, labels);

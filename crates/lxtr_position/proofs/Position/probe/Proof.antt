@@ -1,0 +1,20 @@
+-- A refusal, or no place, gives neither a value nor longer keys; otherwise the answer is what the slot has.
+use borrow.Author.Needs.{needs}
+use Rattle.lxtr_position.specs.Moves.{header-allows, header-long, reached-below, position-refused, position-nowhere, position-reached}
+use Rattle.lxtr_position.proofs.Position.probe.Statement.{statement}
+use Rattle.lxtr_position.proofs.Position.probe.Tie as tie
+
+pub probe-spec : {M : Type 1} → statement M
+probe-spec =
+    tie.close
+    (tie.spec
+    (λ c κs. search needs)
+    (λ c κs. search needs)
+    (λ c. search position-refused)
+    (λ c κs. search header-long)
+    (λ c. search needs)
+    (λ c. search needs)
+    (λ c κs. search needs)
+    (λ c. search position-nowhere)
+    (λ c κs. (search header-allows, search reached-below))
+    (λ c. search position-reached))

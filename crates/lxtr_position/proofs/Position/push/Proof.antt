@@ -1,0 +1,21 @@
+-- A refusal, or a place outside the image, leaves the position unchanged; otherwise it moves.
+use borrow.Author.Needs.{needs}
+use Rattle.lxtr_spec.specs.Positions.{pushOf}
+use Rattle.lxtr_position.specs.Moves.{header-allows, header-long, inside-below, move-refused, move-outside, move-made}
+use Rattle.lxtr_position.proofs.Position.push.Statement.{statement}
+use Rattle.lxtr_position.proofs.Position.push.Tie as tie
+
+pub push-spec : {M : Type 1} → statement M
+unfolding pushOf
+push-spec =
+    tie.close
+    (tie.spec
+    (λ c κs. search needs)
+    (λ c κs. search needs)
+    (λ c. search move-refused)
+    (λ c κs. search header-long)
+    (λ c κs. search needs)
+    (λ c. search move-outside)
+    (λ c κs. (search header-allows, search inside-below))
+    (λ c κs. search needs)
+    (λ c. search move-made))
