@@ -75,7 +75,7 @@ module _ (S : ℕ) (w cs : List ℕ) where
 abbrev pub AllFree : ℕ → List ℕ → ℕ → List ℕ → Type 0
 AllFree S w b cs = (c : ℕ) → List·Memᴰ c cs → Free w (slotUnder b c) × (slotUnder b c < S)
 
-free-of : (S : ℕ) (w : List ℕ) (t : ℕ) → isFree S w t ≡ true → Free w t × (t < S)
+pub free-of : (S : ℕ) (w : List ℕ) (t : ℕ) → isFree S w t ≡ true → Free w t × (t < S)
 unfolding isFree
 free-of S w t h =
     let a = and-is-true (leb 2 t && ltb t S) (eqb (checkAt w t) 0) .0 h in

@@ -18,6 +18,7 @@ pub mod SlotWords
 pub mod PlacingSteps
 pub mod FirstFit
 pub mod SettledSlots
+pub mod FreeSlots
 pub mod Placed
 -- what it leaves there
 pub mod Nodes

@@ -13,7 +13,7 @@ use Rattle.lxtr_build_laws.specs.CodeTables.{Rising}
 use Rattle.lxtr_build_laws.specs.SlotWords.{check-of-base, check-same, base-of-check, base-same, Same, Free, Taken, parentAt}
 use Rattle.lxtr_build_laws.specs.PlacingSteps.{Step, Ready, ready-after}
 use Rattle.lxtr_build_laws.specs.FirstFit.{AllFree, slot-injective}
-use Rattle.lxtr_build_laws.specs.SettledSlots.{put-child-same, Settled, settle-free, settle-step, settle-parent, settle-ready}
+use Rattle.lxtr_build_laws.specs.SettledSlots.{put-child-same, Settled, settle-free, settle-step, settle-parent, settle-ready, put-parent-size}
 use Rattle.lxtr_build_laws.specs.Placed.{Inner}
 
 -- HAS_LEAF, if an end is among the children, whose codes rise; otherwise 0
@@ -49,12 +49,6 @@ children-leaf p v b (zero ∷ cs) w r h m =
     children-same p v b cs (set (set w (2 * slotUnder b 0) (2 ^ 31 + v)) (2 * slotUnder b 0 + 1) p) (slotUnder b 0) (λ e n q. omega (arith, r .0 e n, slot-injective b 0 e q)) .0
     ∙ base-of-check (set w (2 * slotUnder b 0) (2 ^ 31 + v)) (slotUnder b 0) (slotUnder b 0) p ∙ base-same w (slotUnder b 0) (2 ^ 31 + v) h
 children-leaf p v b (suc c ∷ cs) w r h m = ⊎-elim (λ (e : 0 ≡ suc c). absurd (omega arith)) (λ n. absurd (omega (arith, r .0 0 n))) (List·Memᴰ·cases-cons m)
-
-parent-size : (p b : ℕ) (cs w : List ℕ) → length (putParent p b cs w) ≡ length w
-unfolding putParent
-parent-size p b [] w = simp length-set
-parent-size p b (zero ∷ cs) w = simp length-set
-parent-size p b (suc c ∷ cs) w = simp length-set
 
 parent-base : (p b : ℕ) (cs w : List ℕ) → 2 * p < length w → baseAt (putParent p b cs w) p ≡ b
 unfolding putParent
@@ -124,7 +118,7 @@ module _ (S p v : ℕ) (cs w : List ℕ) (b : ℕ) (x : List ℕ) (start : Plain
       parent-is = λ c m. (second .parent (slotUnder b c) (held c m) ∙ omega (arith, parent-is c m, start .ready .to, start .ready .slots), second .stays (slotUnder b c) (held c m));
       leaf = λ m. (
         leaf-later m .0 ∙ ap (λ (y : List ℕ). baseAt y (slotUnder b 0)) (up .is)
-            ∙ children-leaf p v b cs (putParent p b cs w) rising (omega (arith, start .ready .room, free 0 m .1, parent-size p b cs w)) m,
+            ∙ children-leaf p v b cs (putParent p b cs w) rising (omega (arith, start .ready .room, free 0 m .1, put-parent-size p b cs w)) m,
         leaf-later m .1 ∙ parent-is 0 m,
       );
     }

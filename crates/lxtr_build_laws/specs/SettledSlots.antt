@@ -24,7 +24,7 @@ unfolding putChild
 put-child-size p v b zero w = simp length-set
 put-child-size p v b (suc c) w = simp length-set
 
-put-child-parent : (p v b c : ℕ) (w : List ℕ) → 2 * slotUnder b c + 1 < length w → checkAt (putChild p v b c w) (slotUnder b c) ≡ p
+pub put-child-parent : (p v b c : ℕ) (w : List ℕ) → 2 * slotUnder b c + 1 < length w → checkAt (putChild p v b c w) (slotUnder b c) ≡ p
 unfolding putChild
 put-child-parent p v b zero w h = check-same (set w (2 * slotUnder b 0) (2 ^ 31 + v)) (slotUnder b 0) p (simp length-set h)
 put-child-parent p v b (suc c) w h = check-same w (slotUnder b (suc c)) p h
@@ -45,7 +45,13 @@ child-step S p v b c w r f l =
 
 -- ---- the slot's own words
 
-put-parent-same : (p b : ℕ) (cs w : List ℕ) (t : ℕ) → t ≢ p → Same w (putParent p b cs w) t
+pub put-parent-size : (p b : ℕ) (cs w : List ℕ) → length (putParent p b cs w) ≡ length w
+unfolding putParent
+put-parent-size p b [] w = simp length-set
+put-parent-size p b (zero ∷ cs) w = simp length-set
+put-parent-size p b (suc c ∷ cs) w = simp length-set
+
+pub put-parent-same : (p b : ℕ) (cs w : List ℕ) (t : ℕ) → t ≢ p → Same w (putParent p b cs w) t
 unfolding putParent Same
 put-parent-same p b [] w t n = (base-other w p t b n, check-of-base w p t b)
 put-parent-same p b (zero ∷ cs) w t n =

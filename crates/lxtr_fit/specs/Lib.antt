@@ -1,3 +1,5 @@
--- Which slots are free, and the search for a base, turn by turn.
-pub mod FreeSlots
+-- How many slots the work allows, the map of the free ones, and the search for a base, turn by turn.
+pub mod SlotCounts
+pub mod FreeMaps
+pub mod MapLoops
 pub mod Fitting

@@ -6,6 +6,9 @@ pub mod RangeTests
 pub mod Firsts
 pub mod RefusalChains
 pub mod JoiningLaws
+pub mod BinaryDigits
+pub mod SlotMaps
+pub mod JoinedWords
 pub mod KeyOrder
 pub mod Passed
 pub mod ListPlaces

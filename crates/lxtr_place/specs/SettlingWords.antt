@@ -1,6 +1,6 @@
 -- The words that are stored when a slot is settled.
 use Prim.Native.Nat.{ℕ, zero, suc, _+_, _*_, _^_, _%_, _≤_, _<_}
-use mathlib.Core.Path.{_≡_, refl, sym, ap, _∙_}
+use mathlib.Core.Path.{_≡_, refl, sym, ap, _∙_, subst}
 use mathlib.Core.Logic.{_≢_}
 use mathlib.Core.List.{List, [], _∷_}
 use mathlib.Core.Option.{Option, some, none}
@@ -15,8 +15,10 @@ use Rattle.lxtr_spec.specs.declared.Found.{Found}
 use Rattle.lxtr_spec.specs.declared.Found.the-variants.{Is, Nothing}
 use Rattle.lxtr_laws.specs.Members.{member-at}
 use Rattle.lxtr_build_laws.specs.SlotWords.{check-of-base}
-use Rattle.lxtr_build_laws.specs.FirstFit.{first-fit-some, fits-free}
-use Rattle.lxtr_build_laws.specs.SettledSlots.{put-child-size}
+use Rattle.lxtr_build_laws.specs.PlacingSteps.{Ready}
+use Rattle.lxtr_build_laws.specs.FirstFit.{first-fit-some, AllFree, fits-free}
+use Rattle.lxtr_build_laws.specs.SettledSlots.{put-child-size, put-parent-size}
+use Rattle.lxtr_fit.specs.FreeMaps.{FreeMap, takenUnder, InMap, settled-map, settled-inside}
 
 -- the words of each child's slot under the base lie in a work of this many words
 pub record ChildrenInside (words b : ℕ) (cs : List ℕ) : Type 0 where
@@ -88,6 +90,15 @@ module _ (p v b : ℕ) (cs w₀ : List ℕ) where
     unfolding putChildren
     put-end h = sym (s .rest ∙ ap (λ (l : List ℕ). putChildren p v b l w) (drop-of-length-le cs {i = j} h))
 
+-- ---- a slot's own words and all children's
+
+pub put-both : (p v b : ℕ) (cs w x u : List ℕ) → x ≡ putParent p b cs w → u ≡ putChildren p v b cs x → u ≡ putChildren p v b cs (putParent p b cs w)
+put-both p v b cs w x u e q = q ∙ ap (putChildren p v b cs) e
+
+-- the words of the children are inside also after the slot's own are stored
+pub inside-after : (p b : ℕ) (cs w u : List ℕ) → ChildrenInside (length w) b cs → u ≡ putParent p b cs w → ChildrenInside (length u) b cs
+inside-after p b cs w u i e = subst (λ (n : ℕ). ChildrenInside n b cs) (sym (ap length e ∙ put-parent-size p b cs w)) i
+
 -- ---- settling
 
 module _ (S p v : ℕ) (cs w : List ℕ) (r : Found) (answer : found r ≡ firstFit S w cs) where
@@ -101,15 +112,26 @@ module _ (S p v : ℕ) (cs w : List ℕ) (r : Found) (answer : found r ≡ first
     fit : firstFit S w cs ≡ some b
     fit = sym answer ∙ ap found is
 
-    pub settle-inside : (x : List ℕ) → 2 * S ≤ length w → length x ≡ length w → ChildrenInside (length x) b cs
-    settle-inside x room size = record {
-      each = λ j h. omega (arith, fits-free S w cs b (first-fit-some S w cs b fit .0 .fit) (getD cs j 0) (member-at 0 cs j h) .1);
+    children-free : AllFree S w b cs
+    children-free = fits-free S w cs b (first-fit-some S w cs b fit .0 .fit)
+
+    pub settle-inside : 2 * S ≤ length w → ChildrenInside (length w) b cs
+    settle-inside room = record {
+      each = λ j h. omega (arith, children-free (getD cs j 0) (member-at 0 cs j h) .1);
     }
 
-    pub settle-base : (x u : List ℕ) → x ≡ putParent p b cs w → u ≡ putChildren p v b cs x → settledAs (Is b) u ≡ settle S p v cs w
+    -- the children's slots are then taken in the map too
+    module _ (m : List ℕ) (l : ℕ) (ready : Ready S w p) (map : FreeMap S w m l) where
+      pub settle-in-map : InMap (length m) b cs
+      settle-in-map = settled-inside S p v cs w m l b ready children-free map
+
+      pub settle-map : (u n : List ℕ) → u ≡ putChildren p v b cs (putParent p b cs w) → n ≡ takenUnder b cs m → FreeMap S u n l
+      settle-map u n e q = rw (e, q) (settled-map S p v cs w m l b ready children-free map)
+
+    pub settle-base : (u : List ℕ) → u ≡ putChildren p v b cs (putParent p b cs w) → settledAs (Is b) u ≡ settle S p v cs w
     unfolding settledAs settle
-    settle-base x u e q =
-        ap (λ (y : List ℕ). some (b, y)) (q ∙ ap (putChildren p v b cs) e)
+    settle-base u e =
+        ap (λ (y : List ℕ). some (b, y)) e
         ∙ sym (ap (λ (o : Option ℕ). elim o as (λ _. Option (ℕ × List ℕ)) [ none ↦ none | some b ↦ some (b, putChildren p v b cs (putParent p b cs w)) ]) fit)
 
 -- with the codes and the value under other names

@@ -15,7 +15,7 @@ ghost use Rattle.lxtr_build_laws.specs.CodeTables.{CodeTables};
 ghost use Rattle.lxtr_build_laws.specs.Work.{Cleared, placedAs};
 ghost use Rattle.lxtr_place.specs.AllKeys.{StartsPut};
 use crate::groups::Group;
-use crate::placing::place;
+use crate::placing::place_root;
 use lxtr_codes::guesses::GUESS_COUNT;
 use lxtr_codes::guesses::note_all;
 use lxtr_fit::slots::slots_in;
@@ -72,7 +72,7 @@ pub fn place_all(
     let mut guesses = [0u32; GUESS_COUNT];
     note_all(labels, &mut guesses);
     let mut room = [0u32; ROOM];
-    place(
+    place_root(
         keys,
         &starts,
         labels,
@@ -82,8 +82,6 @@ pub fn place_all(
         work,
         slots,
         &mut room,
-        LENGTH_COUNT,
-        1,
         all,
     )
 }

@@ -1,14 +1,16 @@
 // Places the keys of a group: its slot is settled, and each child is then placed in turn, by ascending code, down to its end,
 // before the next.
 ghost use mathlib.Core.Path.{_≡_};
-ghost use Prim.Native.Nat.{_+_, _*_, _-_, _≤_, _<_};
+ghost use Prim.Native.Nat.{_+_, _-_, _≤_, _<_};
 ghost use lib.ListN.{getD, length};
 ghost use Rattle.lxtr_spec.specs.Labels.{lengthCount};
 ghost use Rattle.lxtr_spec.specs.Placing;
 ghost use Rattle.lxtr_spec.specs.Placing.{endValue};
 ghost use Rattle.lxtr_build_laws.specs.KeyListFacts.{Ascending};
 ghost use Rattle.lxtr_build_laws.specs.CodeTables.{codeBy, labelBy};
-ghost use Rattle.lxtr_build_laws.specs.Work.{placedAs};
+ghost use Rattle.lxtr_build_laws.specs.Work.{Cleared, placedAs};
+ghost use Rattle.lxtr_build_laws.specs.PlacingSteps.{Ready};
+ghost use Rattle.lxtr_fit.specs.FreeMaps.{FreeMap};
 ghost use Rattle.lxtr_place.specs.GroupRanges.{groupOf, Grouped, Indexed};
 ghost use Rattle.lxtr_place.specs.SettlingWords.{settledAs};
 ghost use Rattle.lxtr_place.specs.Within.{Called};
@@ -17,25 +19,32 @@ use crate::groups::Group;
 use crate::groups::below;
 use crate::groups::end_value;
 use crate::settling::settle;
+use lxtr_fit::free_map::MAP_WORDS;
+use lxtr_fit::free_map::free_all;
 use lxtr_image::joining::slot_under;
 use lxtr_spec::Found;
+use lxtr_spec::LENGTH_COUNT;
 
 // Places the children of slot p, which have these codes; g is the group of p. Returns the base of p, if one fits.
 fn settle_group(
     keys: &[u8],
     work: &mut [u32],
     slots: usize,
+    free: &mut [u64],
+    lowest: &mut u32,
     p: u32,
     g: Group,
     children: &[u32],
 ) -> Found
     requires { ⌜ Grouped (now keys) g ⌝ }
     requires { ⌜ Ascending (groupOf (now keys) g) ⌝ }
-    requires { ⌜ (2 * slots ≤ length (now work)) × (p < slots) ⌝ }
+    requires { ⌜ Ready slots (now work) p ⌝ }
+    requires { ⌜ FreeMap slots (now work) (now free) (now lowest) ⌝ }
     ensures { λ r. ⌜ settledAs r (now (work .exit)) ≡ Placing.settle slots p (endValue (groupOf (now (keys .entry)) g)) (now (children .entry)) (now (work .entry)) ⌝ }
+    ensures { λ _. ⌜ FreeMap slots (now (work .exit)) (now (free .exit)) (now (lowest .exit)) ⌝ }
 {
     let value = end_value(keys, g);
-    settle(work, slots, p, value, children)
+    settle(work, slots, free, lowest, p, value, children)
 }
 
 // The group of g's child by a code from 1 up. The tables give the label of the code.
@@ -62,8 +71,8 @@ fn child_group(
 
 // Places the group of slot p and all below it, with `left` labels still allowed. Returns whether every slot got a base. The codes
 // of p's children stay at the front of the room while the children are placed; the rest of the room is for the codes further
-// down.
-pub fn place(
+// down. The map says which slots are free.
+fn place(
     keys: &[u8],
     starts: &[u32],
     labels: &[u32],
@@ -72,19 +81,23 @@ pub fn place(
     order: &[u32],
     work: &mut [u32],
     slots: usize,
+    free: &mut [u64],
+    lowest: &mut u32,
     room: &mut [u32],
     left: usize,
     p: u32,
     g: Group,
 ) -> bool
     requires { ⌜ Called (now keys) (now starts) (now labels) (now codes) (now order) slots left p g (now work) (now room) ⌝ }
+    requires { ⌜ FreeMap slots (now work) (now free) (now lowest) ⌝ }
     ensures { λ r. ⌜ placedAs r (now (work .exit)) ≡ Placing.place slots (codeBy (now (labels .entry)) (now (codes .entry))) (labelBy (now (labels .entry)) (now (order .entry))) left p (groupOf (now (keys .entry)) g) (now (work .entry)) ⌝ }
+    ensures { λ _. ⌜ FreeMap slots (now (work .exit)) (now (free .exit)) (now (lowest .exit)) ⌝ }
 {
     if left == 0 {
         return true;
     }
     let count = child_codes(keys, g, labels, guesses, codes, room);
-    let fit = settle_group(keys, work, slots, p, g, &room[..count]);
+    let fit = settle_group(keys, work, slots, free, lowest, p, g, &room[..count]);
     let Found::Is(base) = fit else {
         return false;
     };
@@ -103,6 +116,8 @@ pub fn place(
                 order,
                 work,
                 slots,
+                free,
+                lowest,
                 &mut room[count..],
                 left - 1,
                 t,
@@ -114,4 +129,42 @@ pub fn place(
         j += 1;
     }
     true
+}
+
+// Places the group of slot 1 and all below it, in work that is cleared. Returns whether every slot got a base.
+pub fn place_root(
+    keys: &[u8],
+    starts: &[u32],
+    labels: &[u32],
+    guesses: &[u32],
+    codes: &[u32],
+    order: &[u32],
+    work: &mut [u32],
+    slots: usize,
+    room: &mut [u32],
+    g: Group,
+) -> bool
+    requires { ⌜ Called (now keys) (now starts) (now labels) (now codes) (now order) slots lengthCount 1 g (now work) (now room) ⌝ }
+    requires { ⌜ Cleared (now work) ⌝ }
+    ensures { λ r. ⌜ placedAs r (now (work .exit)) ≡ Placing.place slots (codeBy (now (labels .entry)) (now (codes .entry))) (labelBy (now (labels .entry)) (now (order .entry))) lengthCount 1 (groupOf (now (keys .entry)) g) (now (work .entry)) ⌝ }
+{
+    let mut free = [0u64; MAP_WORDS];
+    free_all(&mut free, slots);
+    let mut lowest: u32 = 0;
+    place(
+        keys,
+        starts,
+        labels,
+        guesses,
+        codes,
+        order,
+        work,
+        slots,
+        &mut free,
+        &mut lowest,
+        room,
+        LENGTH_COUNT,
+        1,
+        g,
+    )
 }

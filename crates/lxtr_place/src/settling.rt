@@ -1,4 +1,4 @@
-// Settles a slot: finds its base, and writes its own words and those of its children.
+// Settles a slot: finds its base, writes its own words and those of its children, and takes their slots in the map of free slots.
 ghost use mathlib.Core.Path.{_≡_};
 ghost use Prim.Native.Nat.{_+_, _*_, _≤_, _<_};
 ghost use lib.ListN.{length};
@@ -6,8 +6,11 @@ ghost use Rattle.lxtr_spec.specs.Labels.{valueLimit};
 ghost use Rattle.lxtr_spec.specs.Joining.{slotUnder};
 ghost use Rattle.lxtr_spec.specs.Placing;
 ghost use Rattle.lxtr_spec.specs.Placing.{putParent, putChild, putChildren};
+ghost use Rattle.lxtr_build_laws.specs.PlacingSteps.{Ready};
+ghost use Rattle.lxtr_fit.specs.FreeMaps.{FreeMap, InMap, takenUnder};
 ghost use Rattle.lxtr_place.specs.SettlingWords.{ChildrenInside, settledAs};
 use lxtr_fit::fitting::first_fit;
+use lxtr_fit::free_map::take_under;
 use lxtr_image::joining::slot_under;
 use lxtr_image::nodes::TOP_BIT;
 use lxtr_spec::Found;
@@ -55,19 +58,41 @@ fn put_children(work: &mut [u32], p: u32, value: u32, base: u32, codes: &[u32])
     }
 }
 
+// Writes the words of p and of its children under a base, and takes the children's slots in the map.
+fn put_under(work: &mut [u32], free: &mut [u64], p: u32, value: u32, base: u32, codes: &[u32])
+    requires { ⌜ 2 * p + 1 < length (now work) ⌝ }
+    requires { ⌜ ChildrenInside (length (now work)) base (now codes) ⌝ }
+    requires { ⌜ InMap (length (now free)) base (now codes) ⌝ }
+    requires { ⌜ value < valueLimit ⌝ }
+    ensures { λ _. ⌜ now (work .exit) ≡ putChildren p value base (now (codes .entry)) (putParent p base (now (codes .entry)) (now (work .entry))) ⌝ }
+    ensures { λ _. ⌜ now (free .exit) ≡ takenUnder base (now (codes .entry)) (now (free .entry)) ⌝ }
+{
+    put_parent(work, p, base, codes);
+    put_children(work, p, value, base, codes);
+    take_under(free, base, codes);
+}
+
 // Places the children of p, which have these codes; `value` is the value of the end, if there is one. Returns the base of p, if
-// one fits.
-pub fn settle(work: &mut [u32], slots: usize, p: u32, value: u32, codes: &[u32]) -> Found
-    requires { ⌜ 2 * slots ≤ length (now work) ⌝ }
-    requires { ⌜ p < slots ⌝ }
+// one fits. The map goes on to say which slots are free.
+pub fn settle(
+    work: &mut [u32],
+    slots: usize,
+    free: &mut [u64],
+    lowest: &mut u32,
+    p: u32,
+    value: u32,
+    codes: &[u32],
+) -> Found
+    requires { ⌜ Ready slots (now work) p ⌝ }
+    requires { ⌜ FreeMap slots (now work) (now free) (now lowest) ⌝ }
     requires { ⌜ value < valueLimit ⌝ }
     ensures { λ r. ⌜ settledAs r (now (work .exit)) ≡ Placing.settle slots p value (now (codes .entry)) (now (work .entry)) ⌝ }
+    ensures { λ _. ⌜ FreeMap slots (now (work .exit)) (now (free .exit)) (now (lowest .exit)) ⌝ }
 {
-    let fit = first_fit(work, slots, codes);
+    let fit = first_fit(work, slots, free, lowest, codes);
     let Found::Is(base) = fit else {
         return Found::Nothing;
     };
-    put_parent(work, p, base, codes);
-    put_children(work, p, value, base, codes);
+    put_under(work, free, p, value, base, codes);
     Found::Is(base)
 }

@@ -19,6 +19,6 @@ place-all-spec =
     (λ c. search needs)
     (λ c. search needs)
     (λ c. search needs)
-    (λ c κs. search all-called)
-    (λ c. c .before .before .before .place .kept .1 .1 .1 .1 .1 .1 .0)
+    (λ c κs. (search all-called, search needs))
+    (λ c. c .before .before .before .place-root .kept .1 .1 .1 .1 .1 .1 .0)
     (λ c. search all-placed))

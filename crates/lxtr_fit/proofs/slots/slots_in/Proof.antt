@@ -1,5 +1,5 @@
 -- The lesser of the two numbers, by one test.
-use Rattle.lxtr_fit.specs.FreeSlots.{few-slots, most-slots}
+use Rattle.lxtr_fit.specs.SlotCounts.{few-slots, most-slots}
 use Rattle.lxtr_fit.proofs.slots.slots_in.Statement.{statement}
 use Rattle.lxtr_fit.proofs.slots.slots_in.Tie as tie
 

@@ -12,4 +12,5 @@ settle-group-spec =
     (λ c κs. (search needs, search needs))
     (λ c κs. (search needs, (search needs, search value-small)))
     (λ c. search needs)
-    (λ c. search settle-as))
+    (λ c. search needs)
+    (λ c. (search settle-as, search needs)))

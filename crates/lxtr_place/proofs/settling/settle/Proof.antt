@@ -1,6 +1,6 @@
--- First fit gives the base; then the words are stored, the slot's own first.
+-- First fit gives the base; then the words of the slot and its children are stored, and the children's slots are taken in the map.
 use borrow.Author.Needs.{needs}
-use Rattle.lxtr_place.specs.SettlingWords.{settle-none, settle-inside, settle-base}
+use Rattle.lxtr_place.specs.SettlingWords.{settle-none, settle-inside, settle-in-map, settle-base, settle-map}
 use Rattle.lxtr_place.proofs.settling.settle.Statement.{statement}
 use Rattle.lxtr_place.proofs.settling.settle.Tie as tie
 
@@ -12,8 +12,9 @@ settle-spec =
     (λ c. search needs)
     (λ c. search needs)
     (λ c. search needs)
-    (λ c. search settle-none)
-    (λ c κs. search needs)
-    (λ c κs. (search settle-inside, search needs))
     (λ c. search needs)
-    (λ c. search settle-base))
+    (λ c. (search settle-none, search needs))
+    (λ c κs. (search needs, (search settle-inside, (search settle-in-map, search needs))))
+    (λ c. search needs)
+    (λ c. search needs)
+    (λ c. (search settle-base, search settle-map)))
