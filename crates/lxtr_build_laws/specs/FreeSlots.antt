@@ -1,9 +1,9 @@
 -- Which slots are free after a slot is settled: the children's slots are not, and the others stay as they were.
 use Prim.Native.Nat.{ℕ, zero, suc, _+_, _*_, _^_, _<_}
-use mathlib.Core.Path.{_≡_, refl, sym, ap, _∙_, subst}
+use mathlib.Core.Path.{_≡_, sym, ap, _∙_, subst}
 use mathlib.Core.Logic.{_≢_}
 use mathlib.Core.List.{List, [], _∷_}
-use mathlib.Core.Bool.{Bool, true, false, _&&_, not, and-true, and-false}
+use mathlib.Core.Bool.{Bool, false, _&&_, not, and-true, and-false}
 use native.Mathlib.Decide.{ℕ-discrete}
 use native.Mathlib.Omega.{arith}
 use lib.Dec.{leb, ltb, eqb}
@@ -12,7 +12,7 @@ use borrow.Author.Tests.{eq-eqb, ne-eqb}
 use Rattle.lxtr_spec.specs.Image.{low31}
 use Rattle.lxtr_spec.specs.Joining.{slotUnder}
 use Rattle.lxtr_spec.specs.Placing.{checkAt, isFree, putChild, putParent}
-use Rattle.lxtr_laws.specs.Tests.{is-false, and-is-false}
+use Rattle.lxtr_laws.specs.Tests.{is-false}
 use Rattle.lxtr_build_laws.specs.SlotWords.{Same, Taken, check-of-base, check-same}
 use Rattle.lxtr_build_laws.specs.FirstFit.{free-of}
 use Rattle.lxtr_build_laws.specs.SettledSlots.{put-child-parent, put-child-same, put-parent-same}

@@ -1,6 +1,6 @@
 -- The search for a base, turn by turn: over the codes for 64 bases, over the blocks of 64 bases, and from which block on.
 -- The first base that passes in the map is the smallest that fits in the work.
-use Prim.Native.Nat.{ℕ, suc, _+_, _*_, _-_, _/_, _%_, _^_, _≤_, _<_}
+use Prim.Native.Nat.{ℕ, _+_, _*_, _-_, _/_, _%_, _^_, _≤_, _<_}
 use mathlib.Core.Path.{_≡_, refl, sym, ap, ap₂, _∙_, subst}
 use mathlib.Core.Logic.{_≢_}
 use mathlib.Core.List.{List, [], _∷_}
@@ -19,11 +19,11 @@ use Rattle.lxtr_spec.specs.Joining.{slotUnder}
 use Rattle.lxtr_spec.specs.Answers.{found}
 use Rattle.lxtr_spec.specs.declared.Found.{Found}
 use Rattle.lxtr_spec.specs.declared.Found.the-variants.{Is, Nothing}
-use Rattle.lxtr_spec.specs.Placing.{isFree, fits, firstFit, baseCount}
+use Rattle.lxtr_spec.specs.Placing.{fits, firstFit, baseCount}
 use Rattle.lxtr_laws.specs.BinaryDigits.{bit, bit-and, bit-of-zero, bit-of-ones}
 use Rattle.lxtr_laws.specs.SlotMaps.{slotBit, BitsOf, First, NoneFrom, FirstOf, first-same, none-join, first-lower, word-passed, word-hit}
 use Rattle.lxtr_laws.specs.JoinedWords.{bitUnder, slot-within}
-use Rattle.lxtr_build_laws.specs.FirstFit.{Smallest, first-fit-some, first-fit-none}
+use Rattle.lxtr_build_laws.specs.FirstFit.{first-fit-some, first-fit-none}
 use Rattle.lxtr_fit.specs.FreeMaps.{FreeMap}
 
 -- the slots of all codes under b are set in the map

@@ -1,11 +1,11 @@
 -- The map of free slots: the bit of a slot is set exactly while the slot is free in the work.
 -- Taking the slots of a parent's children in the map keeps this, when their words are written in the work.
-use Prim.Native.Nat.{ℕ, zero, suc, _+_, _*_, _-_, _/_, _%_, _^_, _≤_, _<_}
-use mathlib.Core.Path.{_≡_, refl, sym, ap, ap₂, _∙_, subst}
+use Prim.Native.Nat.{ℕ, _*_, _-_, _/_, _%_, _^_, _≤_, _<_}
+use mathlib.Core.Path.{_≡_, refl, sym, ap, ap₂, _∙_}
 use mathlib.Core.Logic.{_≢_}
 use mathlib.Core.List.{List, [], _∷_, List·Memᴰ}
 use mathlib.Core.List.List·Memᴰ.{List·Memᴰ·head, List·Memᴰ·tail}
-use mathlib.Core.Bool.{Bool, true, false, _&&_, not, and-true}
+use mathlib.Core.Bool.{Bool, _&&_, not, and-true}
 use native.Mathlib.Decide.{ℕ-discrete}
 use native.Mathlib.Omega.{arith}
 use lib.Bits.{bitAnd}
@@ -29,7 +29,7 @@ use Rattle.lxtr_build_laws.specs.FreeSlots.{free-after-child, free-after-parent
 
 -- one bit for each slot, 64 to a word
 abbrev pub mapWords : ℕ
-mapWords = 1024
+mapWords = maxSlots / 64
 
 -- m is the map of the slots that are free in the work w, and none of these is below l
 pub record FreeMap (S : ℕ) (w m : List ℕ) (l : ℕ) : Type 0 where

@@ -2,7 +2,7 @@
 use Prim.Native.Nat.{ℕ, zero, suc, _+_, _*_, _-_, _/_, _%_, _^_, _≤_, _<_, min}
 use mathlib.Core.Path.{_≡_, refl, sym, ap, ap₂, _∙_, subst}
 use mathlib.Core.Logic.{_≢_}
-use mathlib.Core.List.{List, []}
+use mathlib.Core.List.{List}
 use mathlib.Core.Bool.{Bool, true, false, _&&_, not, and-true}
 use mathlib.Core.Option.{some, none}
 use native.Mathlib.Decide.{decLt, ℕ-discrete}
@@ -22,7 +22,7 @@ use lib.Seq.{drop-cons, getD-set-same, getD-set-other}
 use Rattle.lxtr_spec.specs.Labels.{maxSlots}
 use Rattle.lxtr_spec.specs.Joining.{slotUnder}
 use Rattle.lxtr_laws.specs.BinaryDigits.{bit, bit-shr, bit-of-zero, bit-of-ones}
-use Rattle.lxtr_laws.specs.SlotMaps.{slotBit, BitsOf, First, NoneFrom, FirstOf, word-passed, word-hit}
+use Rattle.lxtr_laws.specs.SlotMaps.{slotBit, BitsOf, NoneFrom, FirstOf, word-passed, word-hit}
 use Rattle.lxtr_fit.specs.FreeMaps.{mapWords, takenIn, takenUnder, taken-size, taken-bit, FreshMap, InMap}
 
 -- ---- one slot is taken

@@ -1,10 +1,10 @@
 -- The binary digits of a number. The operations on words change them digit by digit, and a word's trailing zeros lead to its lowest
 -- digit that is set.
-use Prim.Native.Nat.{ℕ, zero, suc, _+_, _*_, _-_, _/_, _%_, _^_, _≤_, _<_, min, max}
-use mathlib.Core.Path.{_≡_, refl, sym, ap, ap₂, _∙_, subst}
+use Prim.Native.Nat.{ℕ, zero, suc, _+_, _*_, _-_, _/_, _%_, _^_, _<_, min, max}
+use mathlib.Core.Path.{_≡_, refl, sym, ap, _∙_, subst}
 use mathlib.Core.Logic.{_≢_}
 use mathlib.Core.Bool.{Bool, true, false, true≢false, _&&_, _||_, not}
-use native.Mathlib.Nat.{mod-lt, zero-lt-suc, add-mul, mul-assoc, mul-one, zero-div, div-one, div-eq-of-lt, div-lt-iff-lt-mul, one-mul, pow-suc}
+use native.Mathlib.Nat.{mod-lt, zero-lt-suc, add-mul, mul-assoc, div-one, div-eq-of-lt, div-lt-iff-lt-mul, one-mul, pow-suc}
 use native.Mathlib.Decide.{decLt, ℕ-discrete}
 use native.Mathlib.Omega.{arith}
 use lib.Arith.{digits-div, digits-mod}

@@ -6,7 +6,7 @@ use mathlib.Core.List.{List}
 use mathlib.Core.Logic.{_≢_}
 use mathlib.Core.Bool.{Bool, true, false, false≢true, _&&_, _||_, not, cond}
 use native.Mathlib.Decide.{decLe}
-use native.Mathlib.Nat.{mod-lt, mod-one, mul-comm, zero-mul, zero-add, add-zero, zero-lt-suc, one-mul, mul-one}
+use native.Mathlib.Nat.{mod-lt, mul-comm, zero-mul, zero-add, add-zero, zero-lt-suc, one-mul, mul-one}
 use native.Mathlib.Omega.{arith}
 use lib.Arith.{digits-div, digits-mod}
 use lib.Bits.{bitAnd, bitOr, bitXor, xor-block, xor-lt, xor-zero-r, xor-add-and}
@@ -15,7 +15,7 @@ use borrow.Author.Tests.{le-leb, lt-leb}
 use lib.ListN.{getD, length, List·getD-eq-default}
 use lib.Pow.{pow-pos, pow-mono, shl-lt, split, mod-pow-add}
 use Rattle.lxtr_spec.specs.Ranges.{anyBelow}
-use Rattle.lxtr_laws.specs.Tests.{and-is-true, leb-is-true, eqb-is-true, not-is-false, not-is-true, and-is-false}
+use Rattle.lxtr_laws.specs.Tests.{and-is-true, eqb-is-true, not-is-false, not-is-true}
 use Rattle.lxtr_laws.specs.RangeTests.{any-false}
 use Rattle.lxtr_spec.specs.Joining.{slotUnder}
 use Rattle.lxtr_laws.specs.BinaryDigits.{bit, bit-and, bit-or, bit-shr, bit-shl, bit-shl-low, bit-mod, bit-of-zero}

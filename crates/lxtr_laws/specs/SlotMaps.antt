@@ -1,7 +1,7 @@
 -- Maps with one bit for each slot, 64 to a word, and words that hold the outcomes of a test for numbers that follow each other.
 -- A search that goes through such words, one after the other, finds the first number that passes: the lowest bit that is set.
-use Prim.Native.Nat.{ℕ, _+_, _*_, _-_, _/_, _%_, _^_, _≤_, _<_}
-use mathlib.Core.Path.{_≡_, refl, sym, ap, _∙_, subst}
+use Prim.Native.Nat.{ℕ, _+_, _-_, _/_, _%_, _^_, _≤_, _<_}
+use mathlib.Core.Path.{_≡_, sym, ap, _∙_}
 use mathlib.Core.Logic.{_≢_}
 use mathlib.Core.List.{List}
 use mathlib.Core.Bool.{Bool, true, false}
@@ -56,21 +56,18 @@ first-lower f i k n none h a b = none-join f i k n a b
 
 -- one word of the search: none from i up to at - 1 passes, and x holds the outcomes of the k numbers from `at` up
 module _ (f : ℕ → Bool) (i at k x : ℕ) (before : NoneFrom f i at) (word : BitsOf f at k x) where
+  outcome-at : (j : ℕ) → at ≤ j → j < at + k → f j ≡ bit x (j - at)
+  outcome-at j h l = let e : j ≡ at + (j - at) = omega arith in ap f e ∙ sym (word .each (j - at) (omega arith))
+
   pub word-passed : x ≡ 0 → NoneFrom f i (at + k)
-  word-passed z = record { none = λ j h l. go j h l (decLt j at) }
-    where
-      go : (j : ℕ) → i ≤ j → j < at + k → Dec (j < at) → f j ≡ false
-      go j h l (yes b) = before .none j h b
-      go j h l (no b) =
-          let e : at + (j - at) ≡ j = omega arith in
-          subst (λ (y : ℕ). f y ≡ false) e (sym (word .each (j - at) (omega arith)) ∙ ap (λ (y : ℕ). bit y (j - at)) z ∙ bit-of-zero (j - at))
+  word-passed z = none-join f i at (at + k) before (record { none = λ j h l. outcome-at j h l ∙ ap (λ (y : ℕ). bit y (j - at)) z ∙ bit-of-zero (j - at) })
 
   pub word-hit : (n : ℕ) → i ≤ at → k ≤ 64 → at + k ≤ n → x ≢ 0 → First f i n (at + trailingZeros 64 x)
   word-hit n low few to p = record {
     from = omega arith;
     to = omega (arith, inside);
     here = sym (word .each (trailingZeros 64 x) inside) ∙ lowest .set;
-    none-before = λ j h l. go j h l (decLt j at);
+    none-before = none-join f i at (at + trailingZeros 64 x) before (record { none = λ j h l. outcome-at j h (omega (arith, inside)) ∙ lowest .none-below (j - at) (omega arith) }) .none;
   }
     where
       lowest : LowestBit 64 x (trailingZeros 64 x)
@@ -78,9 +75,3 @@ module _ (f : ℕ → Bool) (i at k x : ℕ) (before : NoneFrom f i at) (word : 
 
       inside : trailingZeros 64 x < k
       inside = bit-inside x k (trailingZeros 64 x) (word .small) (lowest .set)
-
-      go : (j : ℕ) → i ≤ j → j < at + trailingZeros 64 x → Dec (j < at) → f j ≡ false
-      go j h l (yes b) = before .none j h b
-      go j h l (no b) =
-          let e : at + (j - at) ≡ j = omega arith in
-          subst (λ (y : ℕ). f y ≡ false) e (sym (word .each (j - at) (omega (arith, inside))) ∙ lowest .none-below (j - at) (omega arith))

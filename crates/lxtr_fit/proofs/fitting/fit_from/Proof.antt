@@ -1,7 +1,8 @@
 -- Invariant: no base of the blocks that were looked at fits.
 use borrow.Author.Needs.{needs}
-use Prim.Native.Nat.{_-_}
+use Prim.Native.Nat.{_-_, _/_}
 use native.Mathlib.Omega.{arith}
+use Rattle.lxtr_spec.specs.Placing.{baseCount}
 use Rattle.lxtr_fit.specs.MapLoops.{bit-fits}
 use Rattle.lxtr_fit.specs.Fitting.{NoBaseSoFar, blocks-start, blocks-found, blocks-next, blocks-none}
 use Rattle.lxtr_fit.proofs.fitting.fit_from.Statement.{statement}
@@ -11,7 +12,7 @@ abbrev Inv-loop : tie.InvT-loop
 Inv-loop free first codes block₀ block = NoBaseSoFar free codes first block
 
 abbrev μ-loop : tie.MeasureT-loop
-μ-loop free first codes block₀ block = 1024 - block
+μ-loop free first codes block₀ block = baseCount / 64 - block
 
 pub fit-from-spec : {M : Type 1} → statement M
 fit-from-spec =

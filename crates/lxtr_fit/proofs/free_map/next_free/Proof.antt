@@ -2,7 +2,6 @@
 use borrow.Author.Needs.{needs}
 use Prim.Native.Nat.{_-_, _/_}
 use native.Mathlib.Omega.{arith}
-use lib.ListN.{length}
 use Rattle.lxtr_spec.specs.Labels.{maxSlots}
 use Rattle.lxtr_fit.specs.MapLoops.{NoFreeSoFar, bit-fits, search-start, search-found, search-next, search-less, search-none}
 use Rattle.lxtr_fit.proofs.free_map.next_free.Statement.{statement}

@@ -1,5 +1,4 @@
 -- Each mask is computed to be one; the six digits of the code are joined one after the other.
-use borrow.Author.Needs.{needs}
 use mathlib.Core.Path.{refl}
 use native.Mathlib.Omega.{arith}
 use Rattle.lxtr_spec.specs.Ranges.{anyBelow}
