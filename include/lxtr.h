@@ -29,7 +29,7 @@
  * - Lent memory is memory that a function writes: places, room, state, work, out. It must not overlap anything else that is passed
  *   in the same call. Memory that is only read may overlap.
  * - It keeps no pointer after it returns, allocates nothing and has no state of its own, so any number of threads may call it.
- * - Stack, measured on x86-64: at most about 490 KB for lxtr_build, 33 KB for lxtr_fault, 22 KB for lxtr_romaji_type and
+ * - Stack, measured on x86-64: at most about 500 KB for lxtr_build, 33 KB for lxtr_fault, 22 KB for lxtr_romaji_type and
  *   lxtr_romaji_finish, 17 KB for lxtr_check, lxtr_highest and lxtr_complete, 1 KB for the others.
  *
  * WHAT AN ANSWER MEANS

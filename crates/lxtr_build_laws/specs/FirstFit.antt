@@ -11,6 +11,7 @@ use lib.Dec.{leb, ltb, eqb}
 use Rattle.lxtr_spec.specs.Joining.{slotUnder, codeUnder}
 use Rattle.lxtr_spec.specs.Placing.{checkAt, isFree, fits, firstFitFrom, firstFit, baseCount}
 use Rattle.lxtr_laws.specs.Tests.{and-is-true, ltb-is-true, leb-is-true, eqb-is-true}
+use Rattle.lxtr_laws.specs.Firsts.{FirstOf}
 use Rattle.lxtr_laws.specs.JoiningLaws.{code-of-slot}
 use Rattle.lxtr_build_laws.specs.SlotWords.{Free}
 
@@ -22,11 +23,11 @@ pub record Smallest (S : ℕ) (w cs : List ℕ) (b r : ℕ) : Type 0 where
 
 module _ (S : ℕ) (w cs : List ℕ) where
   -- a base that does not fit is skipped
-  pub fit-past : (n b : ℕ) → fits S w cs b ≡ false → firstFitFrom S w cs (suc n) b ≡ firstFitFrom S w cs n (b + 1)
+  fit-past : (n b : ℕ) → fits S w cs b ≡ false → firstFitFrom S w cs (suc n) b ≡ firstFitFrom S w cs n (b + 1)
   unfolding firstFitFrom
   fit-past n b h = ap (λ (t : Bool). elim t as (λ _. Option ℕ) [ true ↦ some b | false ↦ firstFitFrom S w cs n (b + 1) ]) h
 
-  pub fit-here : (n b : ℕ) → fits S w cs b ≡ true → firstFitFrom S w cs (suc n) b ≡ some b
+  fit-here : (n b : ℕ) → fits S w cs b ≡ true → firstFitFrom S w cs (suc n) b ≡ some b
   unfolding firstFitFrom
   fit-here n b h = ap (λ (t : Bool). elim t as (λ _. Option ℕ) [ true ↦ some b | false ↦ firstFitFrom S w cs n (b + 1) ]) h
 
@@ -68,6 +69,17 @@ module _ (S : ℕ) (w cs : List ℕ) where
   pub first-fit-none : firstFit S w cs ≡ none → (b : ℕ) → b < baseCount → fits S w cs b ≡ false
   unfolding firstFit
   first-fit-none e b h = from-none baseCount 0 e b (omega arith) (omega arith)
+
+  -- so it is the first of the bases that fits, or there is none
+  pub first-fit-first : FirstOf (fits S w cs) 0 baseCount (firstFit S w cs)
+  unfolding FirstOf
+  first-fit-first = go (firstFit S w cs) refl
+    where
+      go : (o : Option ℕ) → firstFit S w cs ≡ o → FirstOf (fits S w cs) 0 baseCount o
+      go (some r) e =
+          let least = first-fit-some r e in
+          record { from = least .0 .from; to = least .1; here = least .0 .fit; none-before = least .0 .none-before }
+      go none e = record { none = λ b i h. first-fit-none e b h }
 
 -- ---- a base that fits
 

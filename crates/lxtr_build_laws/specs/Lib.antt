@@ -1,4 +1,5 @@
--- Facts about the builder's definitions, each stated once. A reader of contracts meets only KeyListFacts, CodeTables and Work.
+-- Facts about the builder's definitions, each stated once. A reader of contracts meets only KeyListFacts, CodeTables
+-- and Work; inside `lxtr_place` and `lxtr_fit` also Ready of PlacingSteps, and SlotsBelow and eachStep of SlotLoops.
 pub mod KeyListFacts
 pub mod CodeTables
 pub mod Work
@@ -19,6 +20,7 @@ pub mod PlacingSteps
 pub mod FirstFit
 pub mod SettledSlots
 pub mod FreeSlots
+pub mod SlotLoops
 pub mod Placed
 -- what it leaves there
 pub mod Nodes

@@ -1,4 +1,4 @@
-// The slots of lent work. Words 2s and 2s + 1 are base and check of slot s.
+// How many slots lent work has.
 ghost use mathlib.Core.Path.{_≡_};
 ghost use Rattle.lxtr_spec.specs.Builds.{slotsIn};
 use lxtr_spec::MAX_SLOTS;

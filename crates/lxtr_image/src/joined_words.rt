@@ -1,17 +1,22 @@
-// The joining rule for 64 bases at a time: which of the slots that a code reaches from them are set in a map with one bit for each
-// slot. With `joining`, this is all the code that knows the rule.
+// The joining rule for 64 bases at a time, over a map with one bit for each slot. This and `joining` are all the code that knows
+// the rule.
 ghost use mathlib.Core.Path.{_≡_};
 ghost use mathlib.Core.Bool.{true};
 ghost use Prim.Native.Nat.{_*_, _%_, _<_};
-ghost use Rattle.lxtr_laws.specs.SlotMaps.{BitsOf};
-ghost use Rattle.lxtr_laws.specs.JoinedWords.{Moved, isSwapMask, bitUnder};
+ghost use Rattle.lxtr_laws.specs.SlotMaps.{wordBits, BitsOf};
+ghost use Rattle.lxtr_laws.specs.JoinedWords.{Reordered, isSwapMask, bitUnder};
 
-// The word with each bit of the mask exchanged with the bit `width` places above it, if the digit is 1.
+// The number of bits in a word, and the word in which all are set.
+pub const WORD_BITS: u32 = 64;
+
+pub const ALL_BITS: u64 = 0xffffffffffffffff;
+
+// Exchanges each bit of the mask with the bit `width` places above it, if the digit is 1.
 fn swap(word: u64, digit: u32, width: u32, mask: u64) -> u64
     requires { ⌜ digit < 2 ⌝ }
-    requires { ⌜ width < 64 ⌝ }
+    requires { ⌜ width < wordBits ⌝ }
     requires { ⌜ isSwapMask width mask ≡ true ⌝ }
-    ensures { λ r. ⌜ Moved (digit * width) word r ⌝ }
+    ensures { λ r. ⌜ Reordered (digit * width) word r ⌝ }
 {
     if digit == 0 {
         return word;
@@ -19,10 +24,10 @@ fn swap(word: u64, digit: u32, width: u32, mask: u64) -> u64
     ((word >> width) & mask) | ((word & mask) << width)
 }
 
-// The bits of a word in the order of the bases: bit j of the answer is the bit of the slot that the code's low six digits reach
-// from base j.
+// The bits of a word in the order of the bases: bit j of the answer is the bit for the slot that the low six digits of the code
+// reach from base j.
 fn reordered(word: u64, code: u32) -> u64
-    ensures { λ r. ⌜ Moved (code % 64) word r ⌝ }
+    ensures { λ r. ⌜ Reordered (code % wordBits) word r ⌝ }
 {
     let by_1 = swap(word, code % 2, 1, 0x5555555555555555);
     let by_2 = swap(by_1, code / 2 % 2, 2, 0x3333333333333333);
@@ -32,11 +37,11 @@ fn reordered(word: u64, code: u32) -> u64
     swap(by_16, code / 32 % 2, 32, 0x00000000ffffffff)
 }
 
-// Bit j of the answer is the bit of the slot that the code reaches from base 64 * block + j. Slots past the map are not set.
-pub fn word_under(map: &[u64], block: usize, code: u32) -> u64
-    ensures { λ r. ⌜ BitsOf (bitUnder (now (map .entry)) code) (64 * block) 64 r ⌝ }
+// Bit j of the answer is the bit of the slot that the code reaches from base WORD_BITS * block + j. A slot past the map is not set.
+pub fn word_under(map: &[u64], block: u32, code: u32) -> u64
+    ensures { λ r. ⌜ BitsOf (bitUnder (now (map .entry)) code) (wordBits * block) wordBits r ⌝ }
 {
-    let i = block ^ (code / 64) as usize;
+    let i = block as usize ^ (code / WORD_BITS) as usize;
     if map.len() <= i {
         return 0;
     }

@@ -1,7 +1,8 @@
 -- The first number below a bound that passes a test, or the bound if none does: nothing before it passes.
--- There is only one such number.
+-- There is only one such number. The same for the first number from i on, if there is one.
 use Prim.Native.Nat.{ℕ, zero, suc, _+_, _≤_, _<_}
-use mathlib.Core.Path.{_≡_, refl, sym, _∙_}
+use mathlib.Core.Path.{_≡_, refl, sym, ap, _∙_}
+use mathlib.Core.Option.{Option, some, none}
 use mathlib.Core.Bool.{Bool, true, false, true≢false}
 use native.Mathlib.Nat.{le-refl}
 use native.Mathlib.Decide.{ℕ-discrete, decLt}
@@ -85,3 +86,56 @@ module _ (f : ℕ → Bool) where
 
       pub first-past : m ≤ r → anyBelow n f ≡ false
       first-past h = first-none (omega arith)
+
+-- ---- the first from i on, or none
+
+-- r is the first of the numbers from i up to n - 1 that passes f: none before it does
+pub record First (f : ℕ → Bool) (i n r : ℕ) : Type 0 where
+  pub from : i ≤ r
+  pub to : r < n
+  pub here : f r ≡ true
+  pub none-before : (j : ℕ) → i ≤ j → j < r → f j ≡ false
+
+-- none of these numbers passes
+pub record NoneFrom (f : ℕ → Bool) (i n : ℕ) : Type 0 where
+  pub none : (j : ℕ) → i ≤ j → j < n → f j ≡ false
+
+-- an answer that gives the first, and none only if there is none
+unfoldable pub FirstOf : (ℕ → Bool) → ℕ → ℕ → Option ℕ → Type 0
+FirstOf f i n (some r) = First f i n r
+FirstOf f i n none = NoneFrom f i n
+
+module _ (f : ℕ → Bool) (i n : ℕ) where
+  not-sooner : (r t : ℕ) → First f i n r → First f i n t → ¬ (r < t)
+  not-sooner r t a c h = true≢false (sym (a .here) ∙ c .none-before r (a .from) h)
+
+  -- there is only one such answer
+  pub one-answer : (o q : Option ℕ) → FirstOf f i n o → FirstOf f i n q → o ≡ q
+  unfolding FirstOf
+  one-answer (some r) (some t) a c =
+      let not-less = not-sooner r t a c in
+      let not-more = not-sooner t r c a in
+      let same : r ≡ t = omega arith in
+      ap some same
+  one-answer (some r) none a c = absurd (true≢false (sym (a .here) ∙ c .none r (a .from) (a .to)))
+  one-answer none (some t) a c = absurd (true≢false (sym (c .here) ∙ a .none t (c .from) (c .to)))
+  one-answer none none a c = refl
+
+  -- a test with the same outcomes has the same answer
+  pub first-same : (g : ℕ → Bool) → ((j : ℕ) → f j ≡ g j) → (o : Option ℕ) → FirstOf f i n o → FirstOf g i n o
+  unfolding FirstOf
+  first-same g e (some r) a = record { from = a .from; to = a .to; here = sym (e r) ∙ a .here; none-before = λ j h l. sym (e j) ∙ a .none-before j h l }
+  first-same g e none a = record { none = λ j h l. sym (e j) ∙ a .none j h l }
+
+  -- from k on, if none of the numbers before k passes
+  pub none-join : (k : ℕ) → NoneFrom f i k → NoneFrom f k n → NoneFrom f i n
+  none-join k a c = record { none = λ j h l. go j h l (decLt j k) }
+    where
+      go : (j : ℕ) → i ≤ j → j < n → Dec (j < k) → f j ≡ false
+      go j h l (yes b) = a .none j h b
+      go j h l (no b) = c .none j (omega arith) l
+
+pub first-lower : (f : ℕ → Bool) (i n k : ℕ) (o : Option ℕ) → i ≤ k → NoneFrom f i k → FirstOf f k n o → FirstOf f i n o
+unfolding FirstOf
+first-lower f i n k (some r) h a c = record { from = omega (arith, c .from); to = c .to; here = c .here; none-before = none-join f i r k a (record { none = c .none-before }) .none }
+first-lower f i n k none h a c = none-join f i n k a c

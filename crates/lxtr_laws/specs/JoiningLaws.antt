@@ -1,10 +1,11 @@
--- The joining rule: under one base a code determines its slot, and a slot its code. Only these laws know that the rule is XOR.
-use Prim.Native.Nat.{ℕ, zero, suc, _+_, _*_, _/_, _%_, _<_}
+-- The joining rule: under one base a code determines its slot, and a slot its code. Only these laws and those of JoinedWords know
+-- that the rule is XOR.
+use Prim.Native.Nat.{ℕ, zero, suc, _+_, _*_, _/_, _%_, _≤_, _<_}
 use native.Mathlib.Nat.{mod-lt, zero-lt-suc, div-add-mod'}
 use native.Mathlib.Omega.{arith}
 use mathlib.Core.Path.{_≡_, refl, ap, ap₂, _∙_}
 use lib.Arith.{bin-ind, digits-div, digits-mod}
-use lib.Bits.{bitXor, differ, xor-step, xor-zero-r}
+use lib.Bits.{bitXor, differ, xor-step, xor-zero-r, xor-add-and}
 use mathlib.Core.List.{List}
 use Rattle.lxtr_spec.specs.Joining.{slotUnder, codeUnder}
 use Rattle.lxtr_spec.specs.Image.{base, slotFrom, codeTo}
@@ -48,7 +49,12 @@ pub slot-of-end : (a : ℕ) → slotUnder a 0 ≡ a
 unfolding slotUnder
 slot-of-end a = xor-zero-r a
 
--- the same for the slots of an image
+-- a base and a code reach no slot above their sum
+pub slot-within : (a c : ℕ) → slotUnder a c ≤ a + c
+unfolding slotUnder
+slot-within a c = omega (arith, xor-add-and a c)
+
+-- a code and its slot for the slots of an image
 module _ (b : List ℕ) (n : ℕ) where
   pub code-to-slot : (c : ℕ) → codeTo b n (slotFrom b n c) ≡ c
   unfolding codeTo slotFrom

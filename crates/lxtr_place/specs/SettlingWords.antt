@@ -1,28 +1,25 @@
 -- The words that are stored when a slot is settled.
-use Prim.Native.Nat.{ℕ, zero, suc, _+_, _*_, _^_, _%_, _≤_, _<_}
+use Prim.Native.Nat.{ℕ, zero, suc, _+_, _*_, _/_, _^_, _%_, _≤_, _<_}
 use mathlib.Core.Path.{_≡_, refl, sym, ap, _∙_, subst}
 use mathlib.Core.Logic.{_≢_}
 use mathlib.Core.List.{List, [], _∷_}
 use mathlib.Core.Option.{Option, some, none}
 use native.Mathlib.Omega.{arith}
-use native.Mathlib.Numerals.{add-one}
-use lib.ListN.{getD, length, set, drop, drop-of-length-le}
-use lib.Seq.{drop-cons}
+use lib.ListN.{getD, length, set}
 use Rattle.lxtr_spec.specs.Joining.{slotUnder}
 use Rattle.lxtr_spec.specs.Answers.{found}
 use Rattle.lxtr_spec.specs.Placing.{checkAt, firstFit, putChild, putChildren, putParent, settle}
 use Rattle.lxtr_spec.specs.declared.Found.{Found}
 use Rattle.lxtr_spec.specs.declared.Found.the-variants.{Is, Nothing}
 use Rattle.lxtr_laws.specs.Members.{member-at}
+use Rattle.lxtr_laws.specs.SlotMaps.{wordBits}
 use Rattle.lxtr_build_laws.specs.SlotWords.{check-of-base}
 use Rattle.lxtr_build_laws.specs.PlacingSteps.{Ready}
 use Rattle.lxtr_build_laws.specs.FirstFit.{first-fit-some, AllFree, fits-free}
 use Rattle.lxtr_build_laws.specs.SettledSlots.{put-child-size, put-parent-size}
-use Rattle.lxtr_fit.specs.FreeMaps.{FreeMap, takenUnder, InMap, settled-map, settled-inside}
-
--- the words of each child's slot under the base lie in a work of this many words
-pub record ChildrenInside (words b : ℕ) (cs : List ℕ) : Type 0 where
-  pub each : (j : ℕ) → j < length cs → 2 * slotUnder b (getD cs j 0) + 1 < words
+use Rattle.lxtr_build_laws.specs.SlotLoops.{SlotsBelow, eachStep, StepsSoFar, steps-next, steps-end, children-each}
+use Rattle.lxtr_fit.specs.FreeMaps.{FreeMap, takenBy}
+use Rattle.lxtr_fit.specs.TakenSlots.{settled-map}
 
 -- the base that the code answers, and the work after that
 unfoldable pub settledAs : Found → List ℕ → Option (ℕ × List ℕ)
@@ -65,30 +62,15 @@ module _ (p v b : ℕ) (w : List ℕ) (t : ℕ) where
 
 -- ---- all children's words: those of the first j are stored
 
-pub record PutSoFar (p v b : ℕ) (cs w₀ w : List ℕ) (j : ℕ) : Type 0 where
-  pub to : j ≤ length cs
-  pub size : length w ≡ length w₀
-  pub rest : putChildren p v b cs w₀ ≡ putChildren p v b (drop j cs) w
+module _ (p v b : ℕ) (cs w₀ w : List ℕ) (j : ℕ) (s : StepsSoFar (putChild p v b) cs w₀ w j) where
+  pub put-inside : SlotsBelow (length w₀ / 2) b cs → j < length cs → 2 * slotUnder b (getD cs j 0) + 1 < length w
+  put-inside i h = omega (arith, i .each j h, s .size)
 
-module _ (p v b : ℕ) (cs w₀ : List ℕ) where
-  pub put-start : PutSoFar p v b cs w₀ w₀ 0
-  put-start = record { to = omega arith; size = refl; rest = refl }
+  pub put-next : (u : List ℕ) → j < length cs → u ≡ putChild p v b (getD cs j 0) w → StepsSoFar (putChild p v b) cs w₀ u (j + 1)
+  put-next u h e = steps-next (putChild p v b) cs w₀ w j s u h e (put-child-size p v b (getD cs j 0) w)
 
-  module _ (w : List ℕ) (j : ℕ) (s : PutSoFar p v b cs w₀ w j) where
-    pub put-inside : ChildrenInside (length w₀) b cs → j < length cs → 2 * slotUnder b (getD cs j 0) + 1 < length w
-    put-inside i h = omega (arith, i .each j h, s .size)
-
-    pub put-next : (u : List ℕ) → j < length cs → u ≡ putChild p v b (getD cs j 0) w → PutSoFar p v b cs w₀ u (j + 1)
-    unfolding putChildren
-    put-next u h e = record {
-      to = omega arith;
-      size = ap length e ∙ put-child-size p v b (getD cs j 0) w ∙ s .size;
-      rest = s .rest ∙ rw (drop-cons cs j 0 h, e, add-one) refl;
-    }
-
-    pub put-end : length cs ≤ j → w ≡ putChildren p v b cs w₀
-    unfolding putChildren
-    put-end h = sym (s .rest ∙ ap (λ (l : List ℕ). putChildren p v b l w) (drop-of-length-le cs {i = j} h))
+  pub put-end : length cs ≤ j → w ≡ putChildren p v b cs w₀
+  put-end h = steps-end (putChild p v b) cs w₀ w j s h ∙ children-each p v b cs w₀
 
 -- ---- a slot's own words and all children's
 
@@ -96,8 +78,8 @@ pub put-both : (p v b : ℕ) (cs w x u : List ℕ) → x ≡ putParent p b cs w 
 put-both p v b cs w x u e q = q ∙ ap (putChildren p v b cs) e
 
 -- the words of the children are inside also after the slot's own are stored
-pub inside-after : (p b : ℕ) (cs w u : List ℕ) → ChildrenInside (length w) b cs → u ≡ putParent p b cs w → ChildrenInside (length u) b cs
-inside-after p b cs w u i e = subst (λ (n : ℕ). ChildrenInside n b cs) (sym (ap length e ∙ put-parent-size p b cs w)) i
+pub inside-after : (p b : ℕ) (cs w u : List ℕ) → SlotsBelow (length w / 2) b cs → u ≡ putParent p b cs w → SlotsBelow (length u / 2) b cs
+inside-after p b cs w u i e = subst (λ (n : ℕ). SlotsBelow (n / 2) b cs) (sym (ap length e ∙ put-parent-size p b cs w)) i
 
 -- ---- settling
 
@@ -115,17 +97,19 @@ module _ (S p v : ℕ) (cs w : List ℕ) (r : Found) (answer : found r ≡ first
     children-free : AllFree S w b cs
     children-free = fits-free S w cs b (first-fit-some S w cs b fit .0 .fit)
 
-    pub settle-inside : 2 * S ≤ length w → ChildrenInside (length w) b cs
-    settle-inside room = record {
-      each = λ j h. omega (arith, children-free (getD cs j 0) (member-at 0 cs j h) .1);
-    }
+    -- the children's slots are below S, so they are in the work and in the map
+    below : (n : ℕ) → S ≤ n → SlotsBelow n b cs
+    below n h = record { each = λ j l. omega (arith, children-free (getD cs j 0) (member-at 0 cs j l) .1) }
 
-    -- the children's slots are then taken in the map too
+    pub settle-inside : Ready S w p → SlotsBelow (length w / 2) b cs
+    settle-inside ready = below (length w / 2) (omega (arith, ready .room))
+
     module _ (m : List ℕ) (l : ℕ) (ready : Ready S w p) (map : FreeMap S w m l) where
-      pub settle-in-map : InMap (length m) b cs
-      settle-in-map = settled-inside S p v cs w m l b ready children-free map
+      pub settle-in-map : SlotsBelow (wordBits * length m) b cs
+      settle-in-map = below (wordBits * length m) (omega (arith, map .size, ready .slots))
 
-      pub settle-map : (u n : List ℕ) → u ≡ putChildren p v b cs (putParent p b cs w) → n ≡ takenUnder b cs m → FreeMap S u n l
+      -- they are taken in the map too
+      pub settle-map : (u n : List ℕ) → u ≡ putChildren p v b cs (putParent p b cs w) → n ≡ eachStep (takenBy b) cs m → FreeMap S u n l
       settle-map u n e q = rw (e, q) (settled-map S p v cs w m l b ready children-free map)
 
     pub settle-base : (u : List ℕ) → u ≡ putChildren p v b cs (putParent p b cs w) → settledAs (Is b) u ≡ settle S p v cs w

@@ -1,7 +1,7 @@
 // Places the keys of a key list by first fit, as slots in lent work: document 01, "Building".
 mod groups; // the keys that pass a slot
 mod codes; // the codes of a group's children
-mod settling; // a slot's own words, and its children's
+mod settling; // a slot's own words, its children's, and their slots in the map
 mod placing; // a group and all below it
 
 ghost use mathlib.Core.Path.{_≡_};

@@ -20,7 +20,7 @@ use crate::groups::below;
 use crate::groups::end_value;
 use crate::settling::settle;
 use lxtr_fit::free_map::MAP_WORDS;
-use lxtr_fit::free_map::free_all;
+use lxtr_fit::free_map::mark_free;
 use lxtr_image::joining::slot_under;
 use lxtr_spec::Found;
 use lxtr_spec::LENGTH_COUNT;
@@ -71,7 +71,7 @@ fn child_group(
 
 // Places the group of slot p and all below it, with `left` labels still allowed. Returns whether every slot got a base. The codes
 // of p's children stay at the front of the room while the children are placed; the rest of the room is for the codes further
-// down. The map says which slots are free.
+// down. The map says which slots of the work are free, and no slot below `lowest` is.
 fn place(
     keys: &[u8],
     starts: &[u32],
@@ -131,7 +131,8 @@ fn place(
     true
 }
 
-// Places the group of slot 1 and all below it, in work that is cleared. Returns whether every slot got a base.
+// Places the group of slot 1 and all below it, in work that is cleared, with a new map of free slots. Returns whether every slot
+// got a base.
 pub fn place_root(
     keys: &[u8],
     starts: &[u32],
@@ -149,7 +150,7 @@ pub fn place_root(
     ensures { λ r. ⌜ placedAs r (now (work .exit)) ≡ Placing.place slots (codeBy (now (labels .entry)) (now (codes .entry))) (labelBy (now (labels .entry)) (now (order .entry))) lengthCount 1 (groupOf (now (keys .entry)) g) (now (work .entry)) ⌝ }
 {
     let mut free = [0u64; MAP_WORDS];
-    free_all(&mut free, slots);
+    mark_free(work, slots, &mut free);
     let mut lowest: u32 = 0;
     place(
         keys,

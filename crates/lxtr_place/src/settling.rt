@@ -1,14 +1,16 @@
 // Settles a slot: finds its base, writes its own words and those of its children, and takes their slots in the map of free slots.
 ghost use mathlib.Core.Path.{_≡_};
-ghost use Prim.Native.Nat.{_+_, _*_, _≤_, _<_};
+ghost use Prim.Native.Nat.{_+_, _*_, _/_, _<_};
 ghost use lib.ListN.{length};
 ghost use Rattle.lxtr_spec.specs.Labels.{valueLimit};
 ghost use Rattle.lxtr_spec.specs.Joining.{slotUnder};
 ghost use Rattle.lxtr_spec.specs.Placing;
 ghost use Rattle.lxtr_spec.specs.Placing.{putParent, putChild, putChildren};
+ghost use Rattle.lxtr_laws.specs.SlotMaps.{wordBits};
 ghost use Rattle.lxtr_build_laws.specs.PlacingSteps.{Ready};
-ghost use Rattle.lxtr_fit.specs.FreeMaps.{FreeMap, InMap, takenUnder};
-ghost use Rattle.lxtr_place.specs.SettlingWords.{ChildrenInside, settledAs};
+ghost use Rattle.lxtr_build_laws.specs.SlotLoops.{SlotsBelow, eachStep};
+ghost use Rattle.lxtr_fit.specs.FreeMaps.{FreeMap, takenBy};
+ghost use Rattle.lxtr_place.specs.SettlingWords.{settledAs};
 use lxtr_fit::fitting::first_fit;
 use lxtr_fit::free_map::take_under;
 use lxtr_image::joining::slot_under;
@@ -47,7 +49,7 @@ fn put_child(work: &mut [u32], p: u32, value: u32, base: u32, code: u32)
 
 // Writes the words of all children of p.
 fn put_children(work: &mut [u32], p: u32, value: u32, base: u32, codes: &[u32])
-    requires { ⌜ ChildrenInside (length (now work)) base (now codes) ⌝ }
+    requires { ⌜ SlotsBelow (length (now work) / 2) base (now codes) ⌝ }
     requires { ⌜ value < valueLimit ⌝ }
     ensures { λ _. ⌜ now (work .exit) ≡ putChildren p value base (now (codes .entry)) (now (work .entry)) ⌝ }
 {
@@ -61,11 +63,11 @@ fn put_children(work: &mut [u32], p: u32, value: u32, base: u32, codes: &[u32])
 // Writes the words of p and of its children under a base, and takes the children's slots in the map.
 fn put_under(work: &mut [u32], free: &mut [u64], p: u32, value: u32, base: u32, codes: &[u32])
     requires { ⌜ 2 * p + 1 < length (now work) ⌝ }
-    requires { ⌜ ChildrenInside (length (now work)) base (now codes) ⌝ }
-    requires { ⌜ InMap (length (now free)) base (now codes) ⌝ }
+    requires { ⌜ SlotsBelow (length (now work) / 2) base (now codes) ⌝ }
+    requires { ⌜ SlotsBelow (wordBits * length (now free)) base (now codes) ⌝ }
     requires { ⌜ value < valueLimit ⌝ }
     ensures { λ _. ⌜ now (work .exit) ≡ putChildren p value base (now (codes .entry)) (putParent p base (now (codes .entry)) (now (work .entry))) ⌝ }
-    ensures { λ _. ⌜ now (free .exit) ≡ takenUnder base (now (codes .entry)) (now (free .entry)) ⌝ }
+    ensures { λ _. ⌜ now (free .exit) ≡ eachStep (takenBy base) (now (codes .entry)) (now (free .entry)) ⌝ }
 {
     put_parent(work, p, base, codes);
     put_children(work, p, value, base, codes);
@@ -73,7 +75,7 @@ fn put_under(work: &mut [u32], free: &mut [u64], p: u32, value: u32, base: u32, 
 }
 
 // Places the children of p, which have these codes; `value` is the value of the end, if there is one. Returns the base of p, if
-// one fits. The map goes on to say which slots are free.
+// one fits. The map says which slots of the work are free, before and after; no slot below `lowest` is.
 pub fn settle(
     work: &mut [u32],
     slots: usize,

@@ -2,12 +2,14 @@
 use borrow.Author.Needs.{needs}
 use Prim.Native.Nat.{_-_}
 use lib.ListN.{length}
-use Rattle.lxtr_fit.specs.MapLoops.{TakenSoFar, taking-start, taking-inside, taking-next, taking-end}
+use Rattle.lxtr_build_laws.specs.SlotLoops.{StepsSoFar, steps-start, steps-end}
+use Rattle.lxtr_fit.specs.FreeMaps.{takenBy}
+use Rattle.lxtr_fit.specs.MapLoops.{taking-inside, taking-next}
 use Rattle.lxtr_fit.proofs.free_map.take_under.Statement.{statement}
 use Rattle.lxtr_fit.proofs.free_map.take_under.Tie as tie
 
 abbrev Inv-loop : tie.InvT-loop
-Inv-loop free₀ base codes j₀ free j = TakenSoFar base codes free₀ free j
+Inv-loop free₀ base codes j₀ free j = StepsSoFar (takenBy base) codes free₀ free j
 
 abbrev μ-loop : tie.MeasureT-loop
 μ-loop free₀ base codes j₀ free j = length codes - j
@@ -18,7 +20,7 @@ take-under-spec =
     (tie.spec
     Inv-loop
     μ-loop
-    (λ c. search taking-start)
+    (λ c. search steps-start)
     (λ c. search needs)
     (λ c. search needs)
     (λ c κs. search needs)
@@ -27,4 +29,4 @@ take-under-spec =
     (λ c. search needs)
     (λ c. search taking-next)
     (λ c. search needs)
-    (λ c. search taking-end))
+    (λ c. search steps-end))

@@ -9,11 +9,11 @@ word-below-spec =
     tie.close
     (tie.spec
     (λ c. search needs)
+    (λ c. search needs)
     (λ c. search below-none)
     (λ c. search needs)
     (λ c. search needs)
     (λ c. search below-all)
-    (λ c. search needs)
     (λ c. search needs)
     (λ c. search needs)
     (λ c. search below-positive)

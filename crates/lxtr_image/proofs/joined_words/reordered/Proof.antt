@@ -4,12 +4,12 @@ use native.Mathlib.Omega.{arith}
 use Rattle.lxtr_spec.specs.Ranges.{anyBelow}
 use Rattle.lxtr_spec.specs.Joining.{slotUnder}
 use Rattle.lxtr_laws.specs.BinaryDigits.{bit}
-use Rattle.lxtr_laws.specs.JoinedWords.{swapsAt, staysAt, isSwapMask, all-moved}
+use Rattle.lxtr_laws.specs.JoinedWords.{swapsAt, wrongAt, isSwapMask, all-reordered}
 use Rattle.lxtr_image.proofs.joined_words.reordered.Statement.{statement}
 use Rattle.lxtr_image.proofs.joined_words.reordered.Tie as tie
 
 pub reordered-spec : {M : Type 1} → statement M
-unfolding anyBelow slotUnder bit swapsAt staysAt isSwapMask
+unfolding anyBelow slotUnder bit swapsAt wrongAt isSwapMask
 reordered-spec =
     tie.close
     (tie.spec
@@ -19,4 +19,4 @@ reordered-spec =
     (λ c κs. (omega arith, (omega arith, refl)))
     (λ c κs. (omega arith, (omega arith, refl)))
     (λ c κs. (omega arith, (omega arith, refl)))
-    (λ c. search all-moved))
+    (λ c. search all-reordered))

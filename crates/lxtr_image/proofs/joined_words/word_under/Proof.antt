@@ -1,7 +1,7 @@
 -- The bases of a block lead to the slots of one word of the map.
 use borrow.Author.Needs.{needs}
 use mathlib.Core.Path.{refl}
-use Rattle.lxtr_laws.specs.JoinedWords.{under-inside, under-past}
+use Rattle.lxtr_laws.specs.JoinedWords.{under-some, under-past}
 use Rattle.lxtr_image.proofs.joined_words.word_under.Statement.{statement}
 use Rattle.lxtr_image.proofs.joined_words.word_under.Tie as tie
 
@@ -14,4 +14,4 @@ word-under-spec =
     (λ c. search needs)
     (λ c. search needs)
     (λ c κs. search needs)
-    (λ c. under-inside _ _ _ _ refl _ _ refl (c .reordered .ensures) (c .reordered .ok)))
+    (λ c. under-some _ _ _ _ refl _ _ refl (c .reordered .ensures) (c .reordered .ok)))

@@ -10,7 +10,8 @@ use borrow.Author.Needs.{needs}
 use borrow.Fn.Kinds.{In}
 use borrow.Fn.PlainCycle.{Measures, is, falls, and}
 use Rattle.lxtr_build_laws.specs.CodeTables.{codeBy, labelBy}
-use Rattle.lxtr_fit.specs.FreeMaps.{FreeMap, map-as, map-size}
+use Rattle.lxtr_fit.specs.FreeMaps.{FreeMap}
+use Rattle.lxtr_fit.specs.TakenSlots.{map-as, map-size}
 use Rattle.lxtr_place.specs.GroupRanges.{groupOf}
 use Rattle.lxtr_place.specs.GatheredCodes.{front-size}
 use Rattle.lxtr_place.specs.Turns.{Going, no-label-left, none-fits}

@@ -1,7 +1,6 @@
 -- In cleared work all slots from 2 up are free, and so they are in the map.
 use borrow.Author.Needs.{needs}
 use Rattle.lxtr_spec.specs.Labels.{maxLabels}
-use Rattle.lxtr_fit.specs.FreeMaps.{fresh-map}
 use Rattle.lxtr_place.proofs.placing.place_root.Statement.{statement}
 use Rattle.lxtr_place.proofs.placing.place_root.Tie as tie
 
@@ -13,7 +12,7 @@ place-root-spec =
     (λ c. search needs)
     (λ c κs. search needs)
     (λ c. search needs)
-    (λ c κs. (search needs, search fresh-map))
+    (λ c κs. search needs)
     (λ c. search needs)
     (λ c. search needs)
     (λ c. search needs))

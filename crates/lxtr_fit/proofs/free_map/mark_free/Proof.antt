@@ -3,17 +3,17 @@ use borrow.Author.Needs.{needs}
 use Prim.Native.Nat.{_-_}
 use Rattle.lxtr_fit.specs.FreeMaps.{mapWords}
 use Rattle.lxtr_fit.specs.MapLoops.{SetSoFar, setting-start, setting-inside, setting-less, setting-next, setting-end}
-use Rattle.lxtr_fit.proofs.free_map.free_all.Statement.{statement}
-use Rattle.lxtr_fit.proofs.free_map.free_all.Tie as tie
+use Rattle.lxtr_fit.proofs.free_map.mark_free.Statement.{statement}
+use Rattle.lxtr_fit.proofs.free_map.mark_free.Tie as tie
 
 abbrev Inv-loop : tie.InvT-loop
-Inv-loop free₀ slots i₀ free i = SetSoFar slots free i
+Inv-loop work slots free₀ i₀ free i = SetSoFar slots free i
 
 abbrev μ-loop : tie.MeasureT-loop
-μ-loop free₀ slots i₀ free i = mapWords - i
+μ-loop work slots free₀ i₀ free i = mapWords - i
 
-pub free-all-spec : {M : Type 1} → statement M
-free-all-spec =
+pub mark-free-spec : {M : Type 1} → statement M
+mark-free-spec =
     tie.close
     (tie.spec
     Inv-loop
