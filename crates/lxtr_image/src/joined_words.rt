@@ -38,6 +38,7 @@ fn reordered(word: u64, code: u32) -> u64
 }
 
 // Bit j of the answer is the bit of the slot that the code reaches from base WORD_BITS * block + j. A slot past the map is not set.
+// A word that is 0 needs no other order; a search may pass many of them.
 pub fn word_under(map: &[u64], block: u32, code: u32) -> u64
     ensures { λ r. ⌜ BitsOf (bitUnder (now (map .entry)) code) (wordBits * block) wordBits r ⌝ }
 {
@@ -45,5 +46,9 @@ pub fn word_under(map: &[u64], block: u32, code: u32) -> u64
     if map.len() <= i {
         return 0;
     }
-    reordered(map[i], code)
+    let word = map[i];
+    if word == 0 {
+        return 0;
+    }
+    reordered(word, code)
 }

@@ -1,7 +1,7 @@
 -- The bases of a block lead to the slots of one word of the map.
 use borrow.Author.Needs.{needs}
 use mathlib.Core.Path.{refl}
-use Rattle.lxtr_laws.specs.JoinedWords.{under-some, under-past}
+use Rattle.lxtr_laws.specs.JoinedWords.{under-past, under-none, under-some}
 use Rattle.lxtr_image.proofs.joined_words.word_under.Statement.{statement}
 use Rattle.lxtr_image.proofs.joined_words.word_under.Tie as tie
 
@@ -13,5 +13,6 @@ word-under-spec =
     (λ c. search under-past)
     (λ c. search needs)
     (λ c. search needs)
+    (λ c. search under-none)
     (λ c κs. search needs)
     (λ c. under-some _ _ _ _ refl _ _ refl (c .reordered .ensures) (c .reordered .ok)))
