@@ -1,6 +1,6 @@
 -- The search for a base, turn by turn: over the codes for one block of bases, over the blocks, and from which block on.
 -- The first base that passes in the map is the smallest that fits in the work.
-use Prim.Native.Nat.{ℕ, _+_, _*_, _-_, _/_, _%_, _^_, _≤_, _<_}
+use Prim.Native.Nat.{ℕ, _+_, _*_, _-_, _/_, _^_, _≤_, _<_}
 use mathlib.Core.Path.{_≡_, refl, sym, ap, ap₂, _∙_, subst}
 use mathlib.Core.Logic.{_≢_}
 use mathlib.Core.List.{List, [], _∷_}
@@ -11,7 +11,7 @@ use native.Mathlib.Omega.{arith}
 use native.Mathlib.Numerals.{add-one}
 use lib.Bits.{bitAnd, and-lt}
 use lib.Count.{trailingZeros}
-use lib.ListN.{getD, length, drop, drop-of-length-le, List·getD-eq-default}
+use lib.ListN.{getD, length, drop, drop-of-length-le}
 use lib.Seq.{drop-cons}
 use borrow.Author.Tests.{lt-ltb}
 use Rattle.lxtr_spec.specs.Labels.{maxSlots}
@@ -23,7 +23,7 @@ use Rattle.lxtr_spec.specs.Placing.{fits, firstFit, baseCount}
 use Rattle.lxtr_laws.specs.BinaryDigits.{bit, bit-and, bit-of-zero, bit-of-ones}
 use Rattle.lxtr_laws.specs.SlotMaps.{wordBits, slotBit, BitsOf}
 use Rattle.lxtr_laws.specs.Firsts.{First, NoneFrom, FirstOf, one-answer, first-same, none-join, first-lower}
-use Rattle.lxtr_laws.specs.WordSearch.{word-passed, word-hit}
+use Rattle.lxtr_laws.specs.WordSearch.{word-passed, word-hit, bit-past}
 use Rattle.lxtr_laws.specs.JoiningLaws.{slot-within}
 use Rattle.lxtr_laws.specs.JoinedWords.{bitUnder}
 use Rattle.lxtr_build_laws.specs.FirstFit.{first-fit-first}
@@ -112,11 +112,6 @@ module _ (S : ℕ) (w m : List ℕ) (l : ℕ) (map : FreeMap S w m l) where
   fit-no-codes [] e = fit-is [] (some 0) (record { from = omega arith; to = omega arith; here = refl; none-before = λ j h k. absurd (omega arith) })
   fit-no-codes (c ∷ cs) e = absurd (omega arith)
 
-  -- a slot past the map is not set
-  past : (t : ℕ) → maxSlots ≤ t → slotBit m t ≡ false
-  unfolding slotBit
-  past t h = ap (λ (x : ℕ). bit x (t % wordBits)) (List·getD-eq-default m 0 {n = t / wordBits} (omega (arith, map .size))) ∙ bit-of-zero (t % wordBits)
-
   -- a base does not fit if the slot of the first code is not free
   not-under : (cs : List ℕ) (b : ℕ) → length cs ≢ 0 → slotBit m (slotUnder b (getD cs 0 0)) ≡ false → allUnder m cs b ≡ false
   unfolding allUnder bitUnder
@@ -136,7 +131,7 @@ module _ (S : ℕ) (w m : List ℕ) (l : ℕ) (map : FreeMap S w m l) where
         where
           go : Dec (t < maxSlots) → slotBit m t ≡ false
           go (yes h) = all .none t (omega arith) h
-          go (no h) = past t (omega arith)
+          go (no h) = bit-past m t (omega (arith, map .size))
 
   -- t is the first free slot
   module _ (o : Found) (t : ℕ) (next : FirstOf (slotBit m) l maxSlots (found o)) (is : o ≡ Is t) where

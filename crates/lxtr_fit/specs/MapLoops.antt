@@ -14,17 +14,17 @@ use mir.Syntax.{w32}
 use mir.Val.{Fits}
 use borrow.Author.Needs.{fits-under}
 use lib.Dec.{leb, ltb, eqb}
-use lib.ListN.{getD, length, set, length-set, List·getD-eq-default}
+use lib.ListN.{getD, length, set, length-set}
 use lib.Pow.{pow-pos, shl-exact, shr-lt}
 use borrow.Author.Tests.{lt-ltb, le-ltb, le-leb, ne-eqb}
 use lib.Seq.{getD-set-same, getD-set-other}
 use Rattle.lxtr_spec.specs.Labels.{maxSlots}
 use Rattle.lxtr_spec.specs.Joining.{slotUnder}
 use Rattle.lxtr_spec.specs.Placing.{checkAt, isFree}
-use Rattle.lxtr_laws.specs.BinaryDigits.{bit, bit-shr, bit-of-zero, bit-of-ones}
+use Rattle.lxtr_laws.specs.BinaryDigits.{bit, bit-shr, bit-of-ones}
 use Rattle.lxtr_laws.specs.SlotMaps.{wordBits, slotBit, BitsOf}
 use Rattle.lxtr_laws.specs.Firsts.{NoneFrom, FirstOf}
-use Rattle.lxtr_laws.specs.WordSearch.{word-passed, word-hit}
+use Rattle.lxtr_laws.specs.WordSearch.{word-passed, word-hit, bit-past}
 use Rattle.lxtr_build_laws.specs.Work.{Cleared}
 use Rattle.lxtr_build_laws.specs.SlotWords.{zeros-check}
 use Rattle.lxtr_build_laws.specs.SlotLoops.{SlotsBelow, StepsSoFar, steps-next}
@@ -109,9 +109,9 @@ module _ (S : ℕ) where
           in-word (yes h) = lt-ltb (t % wordBits) (min wordBits (S - wordBits * (t / wordBits))) (omega arith) ∙ sym (lt-ltb t S h)
           in-word (no h) = le-ltb (t % wordBits) (min wordBits (S - wordBits * (t / wordBits))) (omega arith) ∙ sym (le-ltb t S (omega arith))
 
-          go : Dec (t / wordBits < mapWords) → bit (getD m (t / wordBits) 0) (t % wordBits) ≡ ltb t S
+          go : Dec (t / wordBits < mapWords) → slotBit m t ≡ ltb t S
           go (yes h) = ap (λ (x : ℕ). bit x (t % wordBits)) (s .words (t / wordBits) (omega (arith, s .size))) ∙ bit-of-ones (min wordBits (S - wordBits * (t / wordBits))) (t % wordBits) ∙ in-word (decLt t S)
-          go (no h) = ap (λ (x : ℕ). bit x (t % wordBits)) (List·getD-eq-default m 0 {n = t / wordBits} (omega (arith, s .size))) ∙ bit-of-zero (t % wordBits) ∙ sym (le-ltb t S (omega arith))
+          go (no h) = bit-past m t (omega (arith, s .size)) ∙ sym (le-ltb t S (omega arith))
 
       pub setting-end : (w m₁ m₂ : List ℕ) → Cleared w → m₁ ≡ takenIn 0 m → m₂ ≡ takenIn 1 m₁ → FreeMap S w m₂ 0
       unfolding isFree
@@ -149,9 +149,9 @@ module _ (m : List ℕ) (i : ℕ) where
       unfolding slotBit
       word = record {
         each = λ j h.
-            let word : at / wordBits ≡ (at + j) / wordBits = omega arith in
+            let same : at / wordBits ≡ (at + j) / wordBits = omega arith in
             let place : at % wordBits + j ≡ (at + j) % wordBits = omega arith in
-            bit-shr (getD m (at / wordBits) 0) (at % wordBits) j ∙ ap₂ (λ (k b : ℕ). bit (getD m k 0) b) word place;
+            bit-shr (getD m (at / wordBits) 0) (at % wordBits) j ∙ ap₂ (λ (k b : ℕ). bit (getD m k 0) b) same place;
         small =
             let e : wordBits - at % wordBits + at % wordBits ≡ wordBits = omega arith in
             shr-lt {n = getD m (at / wordBits) 0} (wordBits - at % wordBits) (at % wordBits) (subst (λ (k : ℕ). getD m (at / wordBits) 0 < 2 ^ k) (sym e) small);

@@ -83,7 +83,7 @@ bit-mod n k j h =
     ap (λ (x : ℕ). eqb (n % 2 ^ x / 2 ^ j % 2) 1) e ∙ ap (λ (x : ℕ). eqb (x % 2) 1) (field n (m + 1) j) ∙ ap (λ (x : ℕ). eqb x 1) (mod-mod-pow (n / 2 ^ j) m 1)
 
 -- a number has no digit that is set above its length
-pub bit-above : (n j : ℕ) → n < 2 ^ j → bit n j ≡ false
+bit-above : (n j : ℕ) → n < 2 ^ j → bit n j ≡ false
 unfolding bit
 bit-above n j h = ap (λ (x : ℕ). eqb (x % 2) 1) (div-eq-of-lt h)
 
@@ -123,7 +123,7 @@ bit-not x k j small h =
     let value : (2 ^ k - 1) - x ≡ d * P + (P - 1 - x % P) = omega (arith, whole, parts, split x j, rest) in
     ap (λ (n : ℕ). eqb (n / P % 2) 1) value ∙ ap (λ (n : ℕ). eqb (n % 2) 1) (digits-div d {m = P} {r = P - 1 - x % P} (omega (arith, rest))) ∙ odd-even d q H sum
 
--- ---- single words
+-- ---- a power of two, and one less
 
 -- only digit b is set
 pub bit-of-power : (b j : ℕ) → bit (2 ^ b) j ≡ eqb j b

@@ -68,7 +68,7 @@ module _ (w m x : ℕ) (mask : isSwapMask w m ≡ true) where
           ap (bit (bitAnd x m * 2 ^ w)) e ∙ bit-shl (bitAnd x m) w (j - w) ∙ bit-and x m (j - w) ∙ ap (λ (t : Bool). t && (bit x (j - w) && bit m (j - w))) (sym (le-leb w j l))
       go (no g) = bit-shl-low (bitAnd x m) w j (omega arith) ∙ ap (λ (t : Bool). t && (bit x (j - w) && bit m (j - w))) (sym (lt-leb w j (omega arith)))
 
-  pub swap-reorders : Reordered w x (bitOr (bitAnd (x / 2 ^ w) m) (bitAnd x m * 2 ^ w % 2 ^ wordBits))
+  swap-reorders : Reordered w x (bitOr (bitAnd (x / 2 ^ w) m) (bitAnd x m * 2 ^ w % 2 ^ wordBits))
   unfolding swapsAt
   swap-reorders = record {
     each = λ j h.
@@ -84,7 +84,7 @@ module _ (w m x : ℕ) (mask : isSwapMask w m ≡ true) where
           let a = and-is-true (leb w j && bit m (j - w)) (eqb (slotUnder j w) (j - w)) .0 (rw e at s) in
           masked-on (bit x (w + j)) (leb w j) (bit x (j - w)) (bit m (j - w)) (a .0) ∙ ap (bit x) (sym (eqb-is-true (slotUnder j w) (j - w) .0 (a .1)))
 
--- code 0 moves nothing
+-- code 0 leaves the order
 reordered-none : (x : ℕ) → Reordered 0 x x
 unfolding slotUnder
 reordered-none x = record { each = λ j h. ap (bit x) (sym (xor-zero-r j)) }
@@ -112,7 +112,7 @@ joined-twice i j d r h =
     ap₂ bitXor first (sym same) ∙ second ∙ sym (ap (λ (n : ℕ). bitXor n (d * 2 ^ i + r)) (sym (split j i)) ∙ xor-block i q d l r low h)
 
 module _ (i c x y z : ℕ) where
-  pub reordered-more : i < 6 → Reordered (c % 2 ^ i) x y → Reordered (c / 2 ^ i % 2 * 2 ^ i) y z → Reordered (c % 2 ^ (1 + i)) x z
+  reordered-more : i < 6 → Reordered (c % 2 ^ i) x y → Reordered (c / 2 ^ i % 2 * 2 ^ i) y z → Reordered (c % 2 ^ (1 + i)) x z
   unfolding slotUnder
   reordered-more h lower here = record {
     each = λ j l.

@@ -1,14 +1,16 @@
 -- A search through words of outcomes, one after the other, for the first number that passes a test.
 -- A word that is 0 is passed; otherwise its lowest bit that is set is the first number that passes.
-use Prim.Native.Nat.{ℕ, _+_, _-_, _≤_, _<_}
+use Prim.Native.Nat.{ℕ, _+_, _-_, _/_, _%_, _≤_, _<_}
 use mathlib.Core.Path.{_≡_, sym, ap, _∙_}
 use mathlib.Core.Logic.{_≢_}
-use mathlib.Core.Bool.{Bool}
+use mathlib.Core.List.{List}
+use mathlib.Core.Bool.{Bool, false}
 use native.Mathlib.Omega.{arith}
 use lib.Count.{trailingZeros}
+use lib.ListN.{length, List·getD-eq-default}
 use lib.Pow.{pow-mono}
 use Rattle.lxtr_laws.specs.BinaryDigits.{bit, bit-of-zero, bit-inside, LowestBit, lowest-bit}
-use Rattle.lxtr_laws.specs.SlotMaps.{wordBits, BitsOf}
+use Rattle.lxtr_laws.specs.SlotMaps.{wordBits, slotBit, BitsOf}
 use Rattle.lxtr_laws.specs.Firsts.{First, NoneFrom, none-join}
 
 -- none from i up to at - 1 passes, and x has the outcomes for the k numbers from `at` on
@@ -32,3 +34,8 @@ module _ (f : ℕ → Bool) (i at k x : ℕ) (before : NoneFrom f i at) (word : 
 
       inside : trailingZeros wordBits x < k
       inside = bit-inside x k (trailingZeros wordBits x) (word .small) (lowest .set)
+
+-- a slot past the map is not set
+pub bit-past : (m : List ℕ) (t : ℕ) → length m ≤ t / wordBits → slotBit m t ≡ false
+unfolding slotBit
+bit-past m t h = ap (λ (x : ℕ). bit x (t % wordBits)) (List·getD-eq-default m 0 {n = t / wordBits} h) ∙ bit-of-zero (t % wordBits)
