@@ -157,67 +157,30 @@ fn next_place(rules: Rules, ahead: &mut VecDeque<(usize, usize)>) -> Option<(usi
     ahead.pop_back()
 }
 
-/// One bit for each slot that a child may still have.
+/// For each slot whether a child may still have it.
 struct FreeSlots {
-    words: Vec<u64>,
+    free: Vec<bool>,
 }
 
 impl FreeSlots {
     fn new(rules: Rules, slots: usize) -> FreeSlots {
-        let mut words = vec![0; SLOTS / 64];
-        words[..slots / 64].fill(u64::MAX);
-        if let Some(word) = words.get_mut(slots / 64) {
-            *word = (1 << (slots % 64)) - 1;
-        }
-        words[0] &= rules.either(!0b11, Wrong::Slot1IsFree, !0b01);
-        FreeSlots { words }
+        let first = rules.either(2, Wrong::Slot1IsFree, 1);
+        let free = (0..SLOTS).map(|slot| (first..slots).contains(&slot)).collect();
+        FreeSlots { free }
     }
 
     fn take(&mut self, slot: usize) {
-        self.words[slot / 64] &= !(1 << (slot % 64));
+        self.free[slot] = false;
     }
 
-    /// The smallest base for which every code's slot is free.
+    /// The smallest base for which every code's slot is free. The bases are tried one by one.
     fn first_fit(&self, rules: Rules, codes: &[u32]) -> Option<u32> {
-        let fits = |block: u32| (64 * block, self.fitting(rules, block, codes));
-        let mut fitting = (0..SLOTS as u32 / 64).map(fits).filter(|(_, fits)| *fits != 0);
+        let first = rules.either(0, Wrong::BaseFrom1, 1);
+        let fits = |base: &u32| codes.iter().all(|code| self.free[(base ^ code) as usize]);
+        let mut fitting = (first..SLOTS as u32).filter(fits);
         if rules.keeps(Wrong::LargestBase) {
-            return fitting.next().map(|(base, fits)| base + fits.trailing_zeros());
+            return fitting.next();
         }
-        fitting.next_back().map(|(base, fits)| base + fits.ilog2())
+        fitting.next_back()
     }
-
-    /// The bases from 64 * `block` up, one bit each, for which all codes fit.
-    /// Base 64b + i and code 64c + j meet in slot 64(b ^ c) + (i ^ j), so one
-    /// word of free slots, with its bits moved by XOR, answers for all 64 bases.
-    fn fitting(&self, rules: Rules, block: u32, codes: &[u32]) -> u64 {
-        let from_1 = block == 0 && rules.breaks(Wrong::BaseFrom1);
-        let mut fits = if from_1 { !1 } else { u64::MAX };
-        for code in codes {
-            fits &= xor_moved(self.words[(block ^ (code / 64)) as usize], code % 64);
-            if fits == 0 {
-                break;
-            }
-        }
-        fits
-    }
-}
-
-/// Moves bit i of a word to bit i XOR `by`, by swapping neighbouring groups.
-fn xor_moved(mut word: u64, by: u32) -> u64 {
-    const LOWER_HALVES: [u64; 6] = [
-        0x5555_5555_5555_5555,
-        0x3333_3333_3333_3333,
-        0x0F0F_0F0F_0F0F_0F0F,
-        0x00FF_00FF_00FF_00FF,
-        0x0000_FFFF_0000_FFFF,
-        0x0000_0000_FFFF_FFFF,
-    ];
-    for (bit, lower) in LOWER_HALVES.iter().enumerate() {
-        let width = 1 << bit;
-        if by & width != 0 {
-            word = (word & lower) << width | (word >> width) & lower;
-        }
-    }
-    word
 }
