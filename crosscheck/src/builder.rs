@@ -1,4 +1,4 @@
-//! The builder: an explicit trie, placed by first fit over a bitmap of free slots.
+//! The builder: an explicit trie, placed by first fit, base by base.
 
 use crate::common::{refuse_if, Refusal, LISTED_LABELS, SLOTS};
 use crate::image::{CodeMap, Image, Node, TOP_BIT};

@@ -4,9 +4,9 @@
 //!
 //! It parses an image into owned vectors and works on those. It often takes
 //! another way to an answer than the sentences of the documents: lists are rebuilt
-//! and compared, depths are memoised, walks are recorded as trails, first fit
-//! tries 64 bases at once, typing looks keys up in a sorted map, and a typing
-//! position is a list of labels that is walked again after each move.
+//! and compared, depths are memoised, walks are recorded as trails, typing looks
+//! keys up in a sorted map, and a typing position is a list of labels that is
+//! walked again after each move.
 //!
 //! Every function takes a [`rules::Rules`]. [`rules::Rules::DOCUMENT`] is what the
 //! documents say; any other value breaks exactly one of their rules, which the

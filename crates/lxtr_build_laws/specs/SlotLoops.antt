@@ -1,4 +1,5 @@
--- A loop over the codes of a slot's children that changes a list at each of them: what is left to do completes the whole.
+-- A loop over the codes of a slot's children that changes a list at each of them: the steps for the codes that are left lead from
+-- the present list to the last one.
 use Prim.Native.Nat.{ℕ, _+_, _≤_, _<_}
 use mathlib.Core.Path.{_≡_, refl, sym, ap, _∙_}
 use mathlib.Core.List.{List, [], _∷_}

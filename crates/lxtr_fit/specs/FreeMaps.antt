@@ -16,7 +16,7 @@ use Rattle.lxtr_laws.specs.JoinedWords.{bitUnder}
 abbrev pub mapWords : ℕ
 mapWords = maxSlots / wordBits
 
--- m is the map of the slots that are free in the work w, and none of these is below l
+-- m is the map of the slots that are free in the work w, which has S slots; none of the free ones is below l
 pub record FreeMap (S : ℕ) (w m : List ℕ) (l : ℕ) : Type 0 where
   pub size : length m ≡ mapWords
   pub bits : (t : ℕ) → slotBit m t ≡ isFree S w t

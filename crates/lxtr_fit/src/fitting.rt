@@ -1,5 +1,5 @@
-// First fit: the smallest base under which the slots of some codes are free. Only `first_fit` searches for a base. It looks at a
-// block of WORD_BITS bases at a time, in the map of free slots.
+// First fit: the smallest base under which the slots of some codes are free. Only `first_fit` and its parts search for a base. They
+// look at a block of WORD_BITS bases at a time, in the map of free slots.
 ghost use mathlib.Core.Path.{_≡_};
 ghost use Prim.Native.Nat.{_*_, _-_, _≤_};
 ghost use Rattle.lxtr_spec.specs.Answers.{found};
@@ -48,7 +48,7 @@ fn fit_from(free: &[u64], first: u32, codes: &[u32]) -> Found
     Found::Nothing
 }
 
-// A block below which the code comes up to slot t under no base: no base and code reach a slot above their sum.
+// A block such that under all bases of lower blocks the code's slot is below t. (No base and code reach a slot above their sum.)
 fn first_block(t: u32, code: u32) -> u32
     ensures { λ r. ⌜ wordBits * r ≤ t - code ⌝ }
 {
@@ -59,8 +59,8 @@ fn first_block(t: u32, code: u32) -> u32
 }
 
 // The smallest base under which the slots of all codes are free, or nothing if no base fits. The map says which slots of the work
-// are free, and no slot below `lowest` is. `lowest` rises to the first free slot; blocks are left out in which the first code
-// stays below that slot under every base. Only the contract reads `work` and `slots`.
+// are free, and no slot below `lowest` is. `lowest` rises to the first free slot; lower blocks, in which the first code stays
+// below that slot under every base, are left out. Only the contract reads `work` and `slots`.
 pub fn first_fit(work: &[u32], slots: usize, free: &[u64], lowest: &mut u32, codes: &[u32]) -> Found
     requires { ⌜ FreeMap slots (now work) (now free) (now lowest) ⌝ }
     ensures { λ r. ⌜ found r ≡ firstFit slots (now (work .entry)) (now (codes .entry)) ⌝ }

@@ -24,8 +24,8 @@ fn swap(word: u64, digit: u32, width: u32, mask: u64) -> u64
     ((word >> width) & mask) | ((word & mask) << width)
 }
 
-// The bits of a word in the order of the bases: bit j of the answer is the bit for the slot that the low six digits of the code
-// reach from base j.
+// The bits of a word in the order of the bases: bit j of the answer is the bit for the slot that the low six binary digits of
+// the code reach from base j.
 fn reordered(word: u64, code: u32) -> u64
     ensures { λ r. ⌜ Reordered (code % wordBits) word r ⌝ }
 {

@@ -27,8 +27,8 @@ use Rattle.lxtr_laws.specs.SlotMaps.{wordBits, slotBit, BitsOf}
 pub record Reordered (d x y : ℕ) : Type 0 where
   pub each : (j : ℕ) → j < wordBits → bit y j ≡ bit x (slotUnder j d)
 
--- The mask m of the swap by w, at bit j. Where the bit is set, code w leads from base j to w places up, and the bit w places down is
--- not set. Where it is not set, code w leads to w places down, and the bit there is set.
+-- The mask m of the swap by w, at bit j. If the bit is set, code w leads from base j to j + w, and bit j - w is not set. If it is
+-- not, code w leads from base j to j - w, and bit j - w is set.
 unfoldable pub swapsAt : ℕ → ℕ → ℕ → Bool
 swapsAt w m j = cond (bit m j) (eqb (slotUnder j w) (w + j) && not (leb w j && bit m (j - w))) ((leb w j && bit m (j - w)) && eqb (slotUnder j w) (j - w))
 

@@ -6,7 +6,7 @@ use mathlib.Core.Bool.{Bool}
 use lib.ListN.{getD}
 use Rattle.lxtr_laws.specs.BinaryDigits.{bit}
 
--- the bits of a word of a map; the number of labels in a key is another number
+-- how many bits a word of a map has; that a key may have as many labels has nothing to do with it
 abbrev pub wordBits : ℕ
 wordBits = 64
 

@@ -1,4 +1,5 @@
 // Settles a slot: finds its base, writes its own words and those of its children, and takes their slots in the map of free slots.
+// Words 2s and 2s + 1 of the work are base and check of slot s.
 ghost use mathlib.Core.Path.{_≡_};
 ghost use Prim.Native.Nat.{_+_, _*_, _/_, _<_};
 ghost use lib.ListN.{length};

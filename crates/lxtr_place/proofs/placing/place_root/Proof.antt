@@ -1,4 +1,4 @@
--- In cleared work all slots from 2 up are free, and so they are in the map.
+-- In cleared work the slots from 2 to slots - 1 are free, and so they are in the map.
 use borrow.Author.Needs.{needs}
 use Rattle.lxtr_spec.specs.Labels.{maxLabels}
 use Rattle.lxtr_place.proofs.placing.place_root.Statement.{statement}

@@ -1,4 +1,4 @@
-//! A few large key lists. Their number is small because the archive's first fit
+//! A few large key lists. Their number is small because first fit, base by base,
 //! takes long over many slots.
 
 use super::lists::built_and_explored;
