@@ -77,8 +77,8 @@ module _ {keys starts labels codes order : List ℕ} {S left p : ℕ} {g : Group
   abbrev GoingOn : List ℕ → ℕ → List ℕ → Type 0
   GoingOn room j x = Going S (codeBy labels codes) (labelBy labels order) left (groupOf keys g) k b u room₀ room j x
 
-  pub loop-first : GoingOn room₀ 0 u
-  loop-first = going-start (s .started) (omega (arith, s .few, s .called .placeable .grouped .values)) (omega (arith, s .few, s .size, s .called .lent .long)) (s .codes-are)
+  pub loop-first : {j : ℕ} → j ≡ 0 → GoingOn room₀ j u
+  loop-first e = rw e (going-start (s .started) (omega (arith, s .few, s .called .placeable .grouped .values)) (omega (arith, s .few, s .size, s .called .lent .long)) (s .codes-are))
 
   module _ {room : List ℕ} {j : ℕ} {x : List ℕ} (going : GoingOn room j x) where
     pub work-size : length x ≡ length w

@@ -137,7 +137,7 @@ pub +place-spec : {M : Type 1} → statement M
     (λ c. search needs)
     (λ c. search needs)
     (λ c. let match = c .before .before in (search none-fits, match .before .before .before .before .settle-group .ensures .1))
-    (λ c. (loop-first (known t c), settled t c .settle-group .ensures .1))
+    (λ c. (loop-first (known t c) (omega arith), settled t c .settle-group .ensures .1))
     (λ c. code-fits (c .before .loop .inv .0) (c .loop-test .taken))
     (λ c. code-inside (c .before .before .loop .inv .0) (c .before .loop-test .taken))
     (λ c κs. search needs)
