@@ -14,6 +14,10 @@
 static const uint8_t keys[] = { 1, 0, 0, 0, 2, 1, 0, 0, 0, 'n', 2, 0, 0, 0, 'n', 0, 0, 0, 'a' };
 static const uint8_t text[] = { 0, 0, 0, 'n', 0, 0, 0, 'a', 0, 0, 0, 'n' };
 
+/* After n a label that the image does not list, and one label more than a key may have. */
+static const uint8_t text_x[] = { 0, 0, 0, 'n', 0, 0, 0, 'x' };
+static const uint8_t long_text[4 * (LXTR_MAX_LABELS + 1)];
+
 /* The kana table: one label for n, one for na. */
 static const uint8_t kana[] = { 1, 0, 0, 0x30, 0x93, 1, 0, 0, 0x30, 0x6A };
 static const uint8_t typed[] = { 'n', 'a', 'n' };
@@ -33,6 +37,12 @@ static void show(const char *what, uint64_t answer)
 static void show_fault(uint64_t answer)
 {
 	printf("%-16s refusal %u, kind %u, number %" PRIu32 "\n", "fault", lxtr_refusal(answer), lxtr_fault_kind(answer),
+	       lxtr_number(answer));
+}
+
+static void show_why(const char *what, uint64_t answer)
+{
+	printf("%-16s refusal %u, reason %u, place %" PRIu32 "\n", what, lxtr_refusal(answer), lxtr_why_reason(answer),
 	       lxtr_number(answer));
 }
 
@@ -63,6 +73,16 @@ static void show_typing(const uint8_t *image, size_t length)
 	show_bytes(state, 4);
 }
 
+static void show_reasons(const uint8_t *image, size_t length)
+{
+	show_why("why na", lxtr_why(image, length, text, NA));
+	show_why("why nx", lxtr_why(image, length, text_x, sizeof text_x));
+	show_why("why nan", lxtr_why(image, length, text, sizeof text));
+	show_why("why (empty)", lxtr_why(image, length, NULL, 0));
+	show_why("why, too long", lxtr_why(image, length, long_text, sizeof long_text));
+	show_why("why, cut", lxtr_why(image, length, text, sizeof text - 1));
+}
+
 /* Key presses: < takes the last label back. */
 static void show_positions(const uint8_t *image, size_t length)
 {
@@ -91,6 +111,7 @@ static void show_answers(const uint8_t *image, size_t length)
 	show("exact (empty)", lxtr_exact(image, length, NULL, 0));
 	show("probe n", lxtr_probe(image, length, text, N));
 	show("probe na", lxtr_probe(image, length, text, NA));
+	show_reasons(image, length);
 	show_positions(image, length);
 	show("longest nan", lxtr_longest(image, length, text, sizeof text));
 	show("longest, cut", lxtr_longest(image, length, text, sizeof text - 1));

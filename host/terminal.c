@@ -1,6 +1,7 @@
 /*
- * terminal: a small host program of a terminal. It loads an image, types a text label by label, shows what is known after each key
- * press, and at the end the completions. In the text, < takes the last label back.
+ * terminal: a small host program of a terminal. It loads an image, types a text label by label, and shows what is known after each
+ * key press. At the end it shows why the text is not a key, unless it is one, and the completions. In the text, < takes the last
+ * label back.
  *
  *     terminal IMAGE TEXT
  */
@@ -22,7 +23,13 @@ static int refused(const char *what, uint64_t answer)
 	return 1;
 }
 
-/* The labels typed so far: as a position, which answers each key press, and as a query, for the completions. */
+static void write_labels(const uint8_t *query, size_t labels)
+{
+	for (size_t i = 0; i < labels; i++)
+		write_character(label_at(query + 4 * i), stdout);
+}
+
+/* The labels typed so far: as a position, which answers each key press, and as a query, for what is shown at the end. */
 struct typed {
 	uint64_t position;
 	uint8_t query[4 * LXTR_MAX_TYPED_LABELS];
@@ -49,8 +56,7 @@ static void press(struct typed *typed, size_t image_length, uint32_t label)
 /* Shows what is known about the labels typed so far. */
 static void show_probe(const struct typed *typed, uint64_t answer)
 {
-	for (size_t at = 0; at < typed->length; at += 4)
-		write_character(label_at(typed->query + at), stdout);
+	write_labels(typed->query, typed->length / 4);
 	printf(": ");
 	if (lxtr_has_value(answer))
 		printf("value %" PRIu32 ", ", lxtr_number(answer));
@@ -59,15 +65,41 @@ static void show_probe(const struct typed *typed, uint64_t answer)
 	printf("%s\n", lxtr_more(answer) ? "longer keys" : "no longer keys");
 }
 
+/* Shows why the labels typed are not a key; nothing if they are. */
+static void show_why(const struct typed *typed, uint64_t answer)
+{
+	size_t place = lxtr_number(answer);
+
+	switch (lxtr_why_reason(answer)) {
+	case LXTR_WHY_LABEL_NOT_LISTED:
+		printf("not found: no key has ");
+		write_labels(typed->query + 4 * place, 1);
+		break;
+	case LXTR_WHY_NO_STEP:
+		printf("not found: no key begins with ");
+		write_labels(typed->query, place + 1);
+		break;
+	case LXTR_WHY_NO_KEY_ENDS:
+		printf("not found: no key ends here");
+		break;
+	case LXTR_WHY_TOO_LONG:
+		printf("not found: no key has more than %d labels", LXTR_MAX_LABELS);
+		break;
+	default:
+		return;
+	}
+	printf("\n");
+}
+
 /* Shows the records that follow the first five bytes of the room. */
 static void show_records(uint32_t count)
 {
 	const uint8_t *at = room + 5;
 	while (count-- > 0) {
-		unsigned labels = *at++;
+		size_t labels = *at++;
 		printf("  ");
-		for (; labels > 0; labels--, at += 4)
-			write_character(label_at(at), stdout);
+		write_labels(at, labels);
+		at += 4 * labels;
 		printf(" %" PRIu32 "\n", label_at(at));
 		at += 4;
 	}
@@ -102,6 +134,8 @@ int main(int argc, char **argv)
 		show_probe(&typed, lxtr_position_probe(image, (size_t)length, typed.position));
 	}
 
+	if (typed.length > 0)
+		show_why(&typed, lxtr_why(image, (size_t)length, typed.query, typed.length));
 	uint64_t listed = lxtr_complete(image, (size_t)length, typed.query, typed.length, room, sizeof room);
 	if (lxtr_refusal(listed) != 0)
 		return refused("completions", listed);

@@ -42,8 +42,8 @@
  * the refusal is 0, nothing was refused. If not, it is a value of enum lxtr_reason, all other parts are 0, and lent memory is
  * unchanged (but lxtr_build clears its work: see there). If several reasons hold, the answer is the first of them, in the order
  * given at the function. lxtr_fault differs: along with a refusal it gives a kind and a number, and it answers 0 for an image that
- * lxtr_check refuses with 1 to 8. lxtr_position_fresh, lxtr_position_push and lxtr_position_back answer a typing position instead,
- * which is not taken apart.
+ * lxtr_check refuses with 1 to 8. lxtr_why differs: if nothing is refused, it gives a reason, and a place as the number.
+ * lxtr_position_fresh, lxtr_position_push and lxtr_position_back answer a typing position instead, which is not taken apart.
  *
  * LAYOUT OF AN IMAGE; only needed to understand a refusal
  *
@@ -107,8 +107,8 @@ enum lxtr_reason {
 	LXTR_WRONG_OFFSET_ENDS = 8,    /* the first offset is not 0, or the last is not E */
 
 	/*
-	 * of an image, in this order, by every function that takes one except lxtr_exact, lxtr_probe, lxtr_longest, lxtr_prefixes and
-	 * those for typing positions
+	 * of an image, in this order, by every function that takes one except lxtr_exact, lxtr_probe, lxtr_why, lxtr_longest,
+	 * lxtr_prefixes and those for typing positions
 	 */
 	LXTR_WRONG_LABELS = 9,         /* a listed label is not a scalar value, or is listed twice */
 	LXTR_WRONG_SLOTS = 10,         /* a slot does not fit its parent or its end, or is unused and not zero; all searches read slots */
@@ -145,6 +145,15 @@ enum lxtr_list_fault {
 	LXTR_ROOT_BASE = 5             /* slot 1 has no child, and its base is not 0 */
 };
 
+/* Why a query is or is not a key, as lxtr_why tells it. */
+enum lxtr_query_reason {
+	LXTR_WHY_FOUND = 1,            /* the query is a key */
+	LXTR_WHY_LABEL_NOT_LISTED = 2, /* the image does not list the label at this place */
+	LXTR_WHY_NO_STEP = 3,          /* the image lists the label at this place, but the lookup has no step by it */
+	LXTR_WHY_NO_KEY_ENDS = 4,      /* the lookup has a step by each label, but no key ends after the last */
+	LXTR_WHY_TOO_LONG = 5          /* the query has more than LXTR_MAX_LABELS labels */
+};
+
 /* The parts of an answer: the refusal, or 0 for none; whether there is more; whether there is a value; the number. */
 static inline unsigned lxtr_refusal(uint64_t answer)
 {
@@ -172,13 +181,19 @@ static inline unsigned lxtr_fault_kind(uint64_t answer)
 	return (unsigned)(answer >> 34 & 7);
 }
 
+/* For an answer of lxtr_why: a value of enum lxtr_query_reason, or 0 after a refusal. */
+static inline unsigned lxtr_why_reason(uint64_t answer)
+{
+	return (unsigned)(answer >> 34 & 7);
+}
+
 /*
  * Checks an image. The number is how many keys it has. Refusals: 1 to 12, in this order.
  *
  * Nothing is refused exactly when the bytes are an image of a set of keys and values. There is then exactly one such set, and
- * the other functions answer according to it. lxtr_exact, lxtr_probe, lxtr_longest, lxtr_prefixes and the functions for typing
- * positions do not test 9 to 12. On an image with such a fault they still answer, but the answer may be wrong. So check an image
- * once before you trust its answers. That a word was found says nothing about the rest of the image.
+ * the other functions answer according to it. lxtr_exact, lxtr_probe, lxtr_why, lxtr_longest, lxtr_prefixes and the functions for
+ * typing positions do not test 9 to 12. On an image with such a fault they still answer, but the answer may be wrong. So check an
+ * image once before you trust its answers. That a word was found says nothing about the rest of the image.
  */
 uint64_t lxtr_check(const uint8_t *image, size_t image_length);
 
@@ -212,6 +227,23 @@ uint64_t lxtr_exact(const uint8_t *image, size_t image_length, const uint8_t *qu
  * Looks up a key as lxtr_exact does. "More" says whether longer keys begin with the query. Refusals: 1 to 8, then 13.
  */
 uint64_t lxtr_probe(const uint8_t *image, size_t image_length, const uint8_t *query, size_t query_length);
+
+/*
+ * Tells why a query is not a key, so that a host can show more than that it was not found. Refusals: 1 to 8, then 13.
+ *
+ *     refusal * 2^40  +  reason * 2^34  +  place
+ *
+ * lxtr_why_reason gives the reason, and lxtr_number the place. LXTR_WHY_LABEL_NOT_LISTED and LXTR_WHY_NO_STEP have a place: that of
+ * the first label at which the lookup stops, counted in labels from 0, so the label is at query + 4 * place. With the other reasons
+ * the place is 0. After a refusal both are 0.
+ *
+ * The reason is LXTR_WHY_FOUND exactly when lxtr_exact answers a value. It is LXTR_WHY_TOO_LONG for every query of more than
+ * LXTR_MAX_LABELS labels. In an image that lxtr_check does not refuse, the other reasons mean:
+ * - LXTR_WHY_LABEL_NOT_LISTED, LXTR_WHY_NO_STEP: some key begins with the labels before the place, if there are any, but none with
+ *   these and the label at the place. If this label is not listed, no key has it anywhere.
+ * - LXTR_WHY_NO_KEY_ENDS: the query is empty, or longer keys begin with it, but it is not a key.
+ */
+uint64_t lxtr_why(const uint8_t *image, size_t image_length, const uint8_t *query, size_t query_length);
 
 /*
  * A typing position stands for the labels that were typed and not taken back. A terminal keeps it from one key press to the next, so

@@ -3,7 +3,7 @@
 use crate::functions::{
     lxtr_build, lxtr_check, lxtr_complete, lxtr_exact, lxtr_highest, lxtr_longest,
     lxtr_position_back, lxtr_position_fresh, lxtr_position_probe, lxtr_position_push,
-    lxtr_prefixes, lxtr_probe, lxtr_romaji_type,
+    lxtr_prefixes, lxtr_probe, lxtr_romaji_type, lxtr_why,
 };
 
 // SAFETY of every call below: a slice is valid for its length, and one lent by
@@ -34,6 +34,10 @@ pub fn prefixes(image: &[u8], query: &[u8], places: &mut [u32]) -> u64 {
     unsafe {
         lxtr_prefixes(image.as_ptr(), image.len(), query.as_ptr(), query.len(), places, places_len)
     }
+}
+
+pub fn why(image: &[u8], query: &[u8]) -> u64 {
+    unsafe { lxtr_why(image.as_ptr(), image.len(), query.as_ptr(), query.len()) }
 }
 
 pub fn position_fresh() -> u64 {

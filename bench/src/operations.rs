@@ -24,13 +24,15 @@ pub enum Operation {
     Prefixes,
     Longest,
     Probe,
+    WhyFound,
+    WhyMissing,
     CompleteAll,
     CompleteTwo,
     Build,
 }
 
 impl Operation {
-    pub const ALL: [Operation; 10] = [
+    pub const ALL: [Operation; 12] = [
         Operation::Check,
         Operation::Highest,
         Operation::ExactPresent,
@@ -38,6 +40,8 @@ impl Operation {
         Operation::Prefixes,
         Operation::Longest,
         Operation::Probe,
+        Operation::WhyFound,
+        Operation::WhyMissing,
         Operation::CompleteAll,
         Operation::CompleteTwo,
         Operation::Build,
@@ -53,6 +57,8 @@ impl Operation {
             Operation::Prefixes => "prefixes: a call finds all keys at a position of a text",
             Operation::Longest => "longest: a call finds the longest key at a position of a text",
             Operation::Probe => "probe: a call looks up a prefix of a key",
+            Operation::WhyFound => "why, found: a call tells that a key of the list is found",
+            Operation::WhyMissing => "why, missing: a call tells why a reading is no key",
             Operation::CompleteAll => "complete, all: a call checks the image and lists all keys",
             Operation::CompleteTwo => {
                 "complete, two labels: a call checks the image and lists the keys of a prefix"
@@ -83,6 +89,8 @@ impl Operation {
             Operation::Prefixes => prefixes(on),
             Operation::Longest => longest(on),
             Operation::Probe => probe(on),
+            Operation::WhyFound => why(&searches(on, slices(&on.present))),
+            Operation::WhyMissing => why(&searches(on, slices(&on.absent))),
             Operation::CompleteAll => complete(on, vec![&[]; on.dictionaries.len()]),
             Operation::CompleteTwo => complete(on, slices(&on.prefixes)),
             Operation::Build => build(on),
@@ -147,6 +155,16 @@ fn probe(on: &Workload) -> Contestants<'_> {
         |call, _| calls::probe(&call.of.image, call.query),
         |call, _| answers::probe(RULES, &call.of.image, call.query),
         |call, _| call.of.parsed.probe(call.query),
+    )
+}
+
+fn why<'a>(queries: &[Call<'a>]) -> Contestants<'a> {
+    three(
+        queries,
+        &Lent::default(),
+        |call, _| calls::why(&call.of.image, call.query),
+        |call, _| answers::why(RULES, &call.of.image, call.query),
+        |call, _| call.of.parsed.why(call.query),
     )
 }
 

@@ -1,7 +1,7 @@
 //! The independent implementation over an image that is already parsed: the
 //! functions of `crosscheck::answers` without their first step.
 
-use crosscheck::answers::{probe_number, romaji_number, value_number};
+use crosscheck::answers::{probe_number, romaji_number, value_number, why_number};
 use crosscheck::check::accept;
 use crosscheck::common::{labels_in, Refusal};
 use crosscheck::image::Image;
@@ -36,6 +36,10 @@ impl Parsed {
 
     pub fn probe(&self, query: &[u8]) -> u64 {
         probe_number(self.0.probe(RULES, &labels_in(query)))
+    }
+
+    pub fn why(&self, query: &[u8]) -> u64 {
+        why_number(self.0.why(RULES, &labels_in(query)))
     }
 
     /// The position after a move.

@@ -13,13 +13,14 @@ use crate::position::{replay, Move, Opened, Position};
 use crate::romaji::{self, Press};
 use crate::rules::{Rules, Wrong};
 use crate::search::{self, Probe};
+use crate::why::{self, Reason, Why};
 use std::iter;
 
 const REFUSAL: u64 = 1 << 40;
 /// Longer keys exist, or a listing stopped.
 const MORE: u64 = 1 << 33;
 const VALUE: u64 = 1 << 32;
-/// The parts of rule 11, numbered from 1.
+/// The parts of rule 11, and the reasons why a word is missing, both numbered from 1.
 const PART: u64 = 1 << 34;
 /// Words of `places`: a length and a value for each length from 0 to the limit of a key.
 pub const PLACE_WORDS: usize = 2 * (KEY_LABELS + 1);
@@ -86,6 +87,18 @@ pub fn moves(rules: Rules, images: &[&[u8]], moves: &[(usize, Move)]) -> Vec<u64
 
 pub fn longest(rules: Rules, image: &[u8], query: &[u8]) -> u64 {
     number(search::longest(rules, image, query), |front| front.len() as u64 / 4)
+}
+
+pub fn why(rules: Rules, image: &[u8], query: &[u8]) -> u64 {
+    let told = why::why(rules, image, query);
+    let with_refusal = rules.breaks(Wrong::RefusedHasReason) && told.is_err();
+    let reason = if with_refusal { why_number(Reason::NoKeyEnds.at(0)) } else { 0 };
+    reason + number(told, why_number)
+}
+
+/// The number of a reason with its place.
+pub fn why_number(why: Why) -> u64 {
+    why.reason as u64 * PART + why.place as u64
 }
 
 /// Writes a pair of length and value for each possible length into `places`, as many words as fit.

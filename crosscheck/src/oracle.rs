@@ -1,9 +1,11 @@
 //! "When bytes are an image of a set of pairs", read as a definition: finds the
 //! set by walking the nodes, then compares the bytes with every sentence of that
-//! section. It shares nothing with refusals 9 to 12.
+//! section. It shares nothing with refusals 9 to 12. Also says why a word is
+//! missing, by the set and the listed labels alone.
 
 use crate::common::{is_scalar, KEY_LABELS};
 use crate::image::{Image, Node, TOP_BIT};
+use crate::why::{Reason, Why};
 use std::collections::{BTreeMap, BTreeSet, HashMap};
 
 /// A key with its codes and its value number.
@@ -24,6 +26,24 @@ pub fn set_of(image: &Image) -> Option<Vec<Pair>> {
     let pairs = candidate(image);
     let slots = slots_for(image, &pairs)?;
     (words_agree(image, &slots) && lists_agree(image, &slots)).then_some(pairs)
+}
+
+/// Why a query is missing in a set, or found: the place is the length of the longest front part that
+/// is one of some key too, so with one label more it is a front part of none.
+pub fn why(set: &[Pair], listed: &[u32], labels: &[u32]) -> Why {
+    let shared = |pair: &Pair| pair.labels.iter().zip(labels).take_while(|(a, b)| a == b).count();
+    let place = set.iter().map(shared).max().unwrap_or(0);
+    if labels.len() > KEY_LABELS {
+        Reason::TooLong.at(0)
+    } else if set.iter().any(|pair| pair.labels == labels) {
+        Reason::Found.at(0)
+    } else if place == labels.len() {
+        Reason::NoKeyEnds.at(0)
+    } else if listed.contains(&labels[place]) {
+        Reason::NoStep.at(place)
+    } else {
+        Reason::NotListed.at(place)
+    }
 }
 
 /// The only set the bytes can be an image of: everything that slot 1 leads to.

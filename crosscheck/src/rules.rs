@@ -1,5 +1,6 @@
-//! The rules of document 01, with requests 1 (romaji typing), 2 (frequencies) and 3
-//! (typing positions) of document 02, and wrong variants that break one rule each.
+//! The rules of document 01, with requests 1 (romaji typing), 2 (frequencies), 3
+//! (typing positions) and 5 (why a word is missing) of document 02, and wrong
+//! variants that break one rule each.
 //!
 //! A comparison that cannot tell a wrong variant from the documents is too weak.
 //! Each variant is tested at the one place where its rule is written, with the
@@ -113,6 +114,25 @@ wrong_variants! {
     ProbePastTheLimit: "probe goes past the limit of a key",
     EndCountsAsLonger: "longer keys exist wherever a list is not empty",
     FallingPairWraps: "a falling offset pair has a wrapped width",
+    // Why a word is missing.
+    UnlistedBeforeNoStep: "a label that is not listed is told before an earlier one without a step",
+    LastUnlistedTold: "the last label that is not listed is told",
+    UnlistedIsNoStep: "a label that is not listed is told as one without a step",
+    NoStepIsUnlisted: "a label without a step is told as one that is not listed",
+    NoKeyIsNoStep: "where no key ends, a missing step behind the last label is told",
+    HasLeafIsFound: "a word is found where HAS_LEAF is set and no leaf is",
+    TooLongAtTheLimit: "a query of as many labels as a key may have is too long",
+    OneLabelMoreWalked: "a query of one label more than a key may have is walked",
+    TooLongAfterWalking: "a query is too long only if all its labels can be walked",
+    TooLongBeforeRefusals: "a query that is too long is told before any refusal",
+    StopCountedFrom1: "the place of a label is counted from 1",
+    StopCountedInBytes: "the place of a label is counted in bytes",
+    FoundHasPlace: "found has the number of labels as its place",
+    NoKeyHasPlace: "no key ends there has the number of labels as its place",
+    TooLongHasPlace: "too long has the number of labels as its place",
+    RefusedHasReason: "a refusal has a reason",
+    ReasonTests13First: "the reason tests refusal 13 before 1 to 8",
+    ReasonTests9To12: "the reason tests 9 to 12 too",
     // Completions.
     RoomBeforeImage: "refusal 14 is tested before 9 to 12",
     PrefixLabelsLeftOut: "records leave out the prefix's labels",

@@ -18,6 +18,7 @@ use lxtr_lookups::exact;
 use lxtr_lookups::longest;
 use lxtr_lookups::prefixes;
 use lxtr_lookups::probe;
+use lxtr_lookups::why;
 use lxtr_messages::ARGUMENT_NOT_UTF8;
 use lxtr_messages::HELP;
 use lxtr_messages::LONG_ARGUMENT;
@@ -39,6 +40,7 @@ fn search(image: &[u8], asked: Command, query: &[u8]) {
         Command::Prefixes => prefixes(image, query),
         Command::Longest => longest(image, query),
         Command::Probe => probe(image, query),
+        Command::Why => why(image, query),
         _ => complete(image, query),
     }
 }

@@ -5,7 +5,7 @@ use mathlib.Core.Path.{_≡_, refl}
 use mathlib.Core.List.{List, [], _∷_}
 use Rattle.lxtr_laws.specs.ExampleTables.{AllHold, _and_}
 use Rattle.lxtr_command_spec.specs.declared.Command.{Command}
-use Rattle.lxtr_command_spec.specs.declared.Command.the-variants.{Check, Exact, Prefixes, Longest, Probe, Complete, Build, Keys, Draw, TypeText, Help, Unknown, WrongOperands}
+use Rattle.lxtr_command_spec.specs.declared.Command.the-variants.{Check, Exact, Prefixes, Longest, Probe, Why, Complete, Build, Keys, Draw, TypeText, Help, Unknown, WrongOperands}
 use Rattle.lxtr_command_spec.specs.Commands.{asciiFrom, ascii, sameBytes, taking, row, laterRows, commandOf}
 
 pub data Example : Type 0 where
@@ -23,6 +23,7 @@ examples =
     ∷ means "prefixes" 2 Prefixes
     ∷ means "longest" 2 Longest
     ∷ means "probe" 2 Probe
+    ∷ means "why" 2 Why
     ∷ means "complete" 1 Complete
     ∷ means "complete" 2 Complete
     ∷ means "build" 2 Build
@@ -35,6 +36,7 @@ examples =
     ∷ means "check" 2 WrongOperands
     ∷ means "exact" 1 WrongOperands
     ∷ means "exact" 3 WrongOperands
+    ∷ means "why" 1 WrongOperands
     ∷ means "complete" 0 WrongOperands
     ∷ means "complete" 3 WrongOperands
     ∷ means "build" 1 WrongOperands
@@ -54,7 +56,7 @@ examples =
 pub command-examples-hold : AllHold Holds examples
 unfolding examples asciiFrom ascii sameBytes taking row laterRows commandOf
 command-examples-hold =
-    refl and refl and refl and refl and refl and refl and refl and refl and refl and refl and refl and refl
-    and refl and refl and refl and refl and refl and refl and refl and refl and refl and refl and refl and refl
+    refl and refl and refl and refl and refl and refl and refl and refl and refl and refl and refl and refl and refl
+    and refl and refl and refl and refl and refl and refl and refl and refl and refl and refl and refl and refl and refl
     and refl and refl and refl and refl and refl
     and tt

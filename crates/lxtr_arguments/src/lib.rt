@@ -73,5 +73,8 @@ pub fn command(name: &[u8], count: usize) -> Command
     if same_bytes(name, b"probe") {
         return taking(Command::Probe, 2, 2, count);
     }
+    if same_bytes(name, b"why") {
+        return taking(Command::Why, 2, 2, count);
+    }
     later_rows(name, count)
 }

@@ -10,10 +10,11 @@ use Rattle.lxtr_spec.specs.Refusals.{unlessRefused, checkOf}
 use Rattle.lxtr_spec.specs.FaultPlaces.{faultOf}
 use Rattle.lxtr_spec.specs.HighestValues.{highestOf}
 use Rattle.lxtr_spec.specs.Searches.{exactOf, prefixesOf, LongestAnswer, longestLength, longestOf, probeOf}
+use Rattle.lxtr_spec.specs.Reasons.{whyOf}
 use Rattle.lxtr_spec.specs.Completions.{CompletionAnswer, completionOf}
 use Rattle.lxtr_spec.specs.Builds.{BuildAnswer, buildOf}
 use Rattle.lxtr_spec.specs.Answers.{found, exactMeans, probeMeans, highestMeans}
-use Rattle.lxtr_spec.specs.HostNumbers.{hostNumber, valueNumbered, faultNumbered, checkNumber, faultNumber, highestNumber, exactNumber, probeNumber, longestNumber, HostPrefixes, alternately, atFront, prefixesNumber, placesAfter, hostPrefixesOf, HostCompletion, completionNumber, hostCompletionOf, HostBuild, builtNumber, hostBuildOf}
+use Rattle.lxtr_spec.specs.HostNumbers.{hostNumber, valueNumbered, faultNumbered, checkNumber, faultNumber, highestNumber, exactNumber, probeNumber, longestNumber, reasonNumbered, whyNumber, HostPrefixes, alternately, atFront, prefixesNumber, placesAfter, hostPrefixesOf, HostCompletion, completionNumber, hostCompletionOf, HostBuild, builtNumber, hostBuildOf}
 use Rattle.lxtr_laws.specs.Limit.{length-fits-byte}
 use Rattle.lxtr_laws.specs.RefusalChains.{stands}
 use Rattle.lxtr_search.specs.Kept.{longest-bytes, longest-limit}
@@ -23,6 +24,7 @@ use Rattle.lxtr_spec.specs.declared.Highest.{Highest}
 use Rattle.lxtr_spec.specs.declared.Exact.{Exact}
 use Rattle.lxtr_spec.specs.declared.Prefixes.{Prefixes}
 use Rattle.lxtr_spec.specs.declared.Probe.{Probe}
+use Rattle.lxtr_spec.specs.declared.Why.{Why}
 use Rattle.lxtr_spec.specs.declared.Completion.{Completion}
 use Rattle.lxtr_spec.specs.declared.Built.{Built}
 
@@ -47,6 +49,10 @@ module _ (b : List ℕ) where
     pub probe-number : (a : Probe) (n : ℕ) → probeMeans a ≡ probeOf b q → n ≡ valueNumbered (a .refusal) (a .longer) (found (a .value)) → n ≡ probeNumber b q
     unfolding probeNumber
     probe-number a n e h = rw (← e) h
+
+    pub why-number : (a : Why) (n : ℕ) → a ≡ whyOf b q → n ≡ reasonNumbered (a .refusal) (a .reason) → n ≡ whyNumber b q
+    unfolding whyNumber
+    why-number a n e h = rw (← e) h
 
     -- the part that longest hands back has four bytes per label, and no more labels than a key may have
     module _ (k : ℕ) (part : List ℕ) (e : _≡_ {A = LongestAnswer} (record { refusal = k; part = part }) (longestOf b q)) where

@@ -4,7 +4,7 @@ ghost use mathlib.Core.Path.{_≡_};
 ghost use mathlib.Core.Bool.{false};
 ghost use Prim.Native.Nat.{_%_, _^_};
 ghost use Rattle.lxtr_spec.specs.Refusals.{unlessRefused};
-ghost use Rattle.lxtr_spec.specs.HostNumbers.{hostNumber, atFront, checkNumber, faultNumber, highestNumber, exactNumber, probeNumber, longestNumber, hostPrefixesOf, hostFresh, hostPushOf, hostBackOf, positionProbeNumber, hostCompletionOf, hostBuildOf};
+ghost use Rattle.lxtr_spec.specs.HostNumbers.{hostNumber, atFront, checkNumber, faultNumber, highestNumber, exactNumber, probeNumber, longestNumber, whyNumber, hostPrefixesOf, hostFresh, hostPushOf, hostBackOf, positionProbeNumber, hostCompletionOf, hostBuildOf};
 ghost use Rattle.romaji_spec.specs.HostStates.{stateBytes, hostTypeOf, hostFinishOf};
 use lxtr_build::build;
 use lxtr_check::check;
@@ -13,6 +13,7 @@ use lxtr_fault::fault;
 use lxtr_highest::highest;
 use lxtr_host::numbers::fault_numbered;
 use lxtr_host::numbers::host_number;
+use lxtr_host::numbers::reason_numbered;
 use lxtr_host::numbers::value_numbered;
 use lxtr_host::places::put_places;
 use lxtr_position::Position;
@@ -23,6 +24,7 @@ use lxtr_search::longest;
 use lxtr_search::matches::put_prefixes;
 use lxtr_search::probe;
 use lxtr_spec::LENGTH_COUNT;
+use lxtr_why::why;
 use romaji::finish;
 use romaji::states::put_state;
 use romaji::states::read_state;
@@ -84,6 +86,16 @@ pub extern "C" fn lxtr_longest(image: &[u8], query: &[u8]) -> u64
     let mut refusal: u8 = 0;
     let part = longest(image, query, &mut refusal);
     host_number(refusal, false, false, (part.len() / 4) as u32)
+}
+
+// Why the query is found or not: the reason, and the place at which the walk stops.
+#[no_mangle]
+pub extern "C" fn lxtr_why(image: &[u8], query: &[u8]) -> u64
+    ensures { λ r. ⌜ r ≡ whyNumber (now (image .entry)) (now (query .entry)) ⌝ }
+{
+    let answer = why(image, query);
+    let reason = answer.reason;
+    reason_numbered(answer.refusal, reason)
 }
 
 // Prefixes: how many there are. Their lengths and values are put into `places` alternately, as many as fit.

@@ -6,7 +6,7 @@ use mathlib.Core.List.{List, [], _∷_}
 use mathlib.Core.Bool.{Bool, true, false, _&&_}
 use lib.Dec.{leb, eqb}
 use Rattle.lxtr_command_spec.specs.declared.Command.{Command}
-use Rattle.lxtr_command_spec.specs.declared.Command.the-variants.{Check, Exact, Prefixes, Longest, Probe, Complete, Build, Keys, Draw, TypeText, Help, Unknown, WrongOperands}
+use Rattle.lxtr_command_spec.specs.declared.Command.the-variants.{Check, Exact, Prefixes, Longest, Probe, Why, Complete, Build, Keys, Draw, TypeText, Help, Unknown, WrongOperands}
 
 -- the bytes of a text of ASCII characters: of n characters from character i on, then of all
 unfoldable pub asciiFrom : ℕ → String → ℕ → List ℕ
@@ -50,4 +50,5 @@ commandOf name n =
     (row "prefixes" 2 2 Prefixes name n
     (row "longest" 2 2 Longest name n
     (row "probe" 2 2 Probe name n
-    (laterRows name n)))))
+    (row "why" 2 2 Why name n
+    (laterRows name n))))))

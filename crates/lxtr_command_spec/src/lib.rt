@@ -34,6 +34,7 @@ pub enum Command {
     Prefixes,
     Longest,
     Probe,
+    Why,
     Complete,
     Build,
     Keys,

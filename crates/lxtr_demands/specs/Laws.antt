@@ -33,6 +33,8 @@ pub mod Demand2
 -- Typing positions.
 pub mod TypingPositions
 pub mod PositionNumbers
+-- Why a word is missing.
+pub mod TrueReasons
 -- The builder.
 pub mod Sections
 pub mod WorkSlots

@@ -17,14 +17,17 @@ use Rattle.lxtr_spec.specs.HighestValues.{larger, highestBelow, highestOf}
 use Rattle.lxtr_spec.specs.Walks.{step, stepBy, walk, walkWithin, leafValue, valueAt, valueReached, valueOf, longerAt}
 use Rattle.lxtr_spec.specs.Searches.{queryRefusal, searchRefusal, exactValue, exactOf, lengthMatch, matchAt, matches, prefixMatches, prefixesAnswer, prefixesOf, lastLength, longestLength, longestOf, probeAnswer, probeAt, probeOf}
 use Rattle.lxtr_spec.specs.Positions.{TypingPosition, freshPosition, allWalked, slotBy, oneMore, maxTyped, pushed, oneLess, takenBack, isPlaced, moveAnswer, movedTo, pushOf, backOf, reachedSlot, positionProbeOf}
+use Rattle.lxtr_spec.specs.Reasons.{endedWith, stoppedAt, reasonFrom, reasonOf, whyOf, reasonNumber, reasonPlace}
 use Rattle.lxtr_spec.specs.Completions.{entryPairs, listFrom, pairsAt, pairsBelow, recordOf, recordsOf, fitting, listingOf, listedIn, completionAnswer, written, completionRefusal, completionOf}
-use Rattle.lxtr_spec.specs.HostNumbers.{hostNumber, valueNumbered, checkNumber, exactNumber, probeNumber, longestNumber, placeNumber, faultNumbered, faultNumber, highestNumber, placeWords, alternately, atFront, placesAfter, prefixesNumber, hostPrefixesOf, positionNumber, positionOf, hostFresh, hostPushOf, hostBackOf, positionProbeNumber, completionNumber, hostCompletionOf, builtNumber, hostBuildOf}
+use Rattle.lxtr_spec.specs.HostNumbers.{hostNumber, valueNumbered, checkNumber, exactNumber, probeNumber, longestNumber, placeNumber, faultNumbered, faultNumber, highestNumber, reasonNumbered, whyNumber, placeWords, alternately, atFront, placesAfter, prefixesNumber, hostPrefixesOf, positionNumber, positionOf, hostFresh, hostPushOf, hostBackOf, positionProbeNumber, completionNumber, hostCompletionOf, builtNumber, hostBuildOf}
 use Rattle.lxtr_spec.specs.KeyLists.{listVersion, keyCount, keyLength, keyLabel, nextKey, keyLabels, keyAt, keysFrom, pairsOf, noScalarAt, notAbove, keyRefusal, keysRefusal, listRefusal}
 use Rattle.lxtr_spec.specs.CodeMaps.{insert, insertAll, labelsUsed, occurrences, frequency, goesBefore, rankIn, ranked, mapOf, codeIn, labelWith}
 use Rattle.lxtr_spec.specs.Placing.{baseAt, checkAt, isTakenFrom2, isFree, fits, firstFitFrom, firstFit, nextCode, childCodes, below, endValue, putChild, putChildren, putParent, settle, intoEach, place}
 use Rattle.lxtr_spec.specs.Builds.{headerBytes, mapBytes, imageBytes, slotsUsed, isChild, childBy, childrenOf, childrenIn, offsetsFrom, imageIn, slotsIn, placedIn, withRoom, fromPlaced, fromLabels, fromKeys, outcomeOf, answered, workAfter, buildOf}
 use Rattle.lxtr_spec.specs.Samples.{p1, p2, nodes3, offsets3, children3, labels3, p3, p7, p8-check, p8-slot, p9-labels, p9-longer, p10, p11, keyRecords, keyList}
 use Rattle.lxtr_spec.specs.declared.Fault.{Fault}
+use Rattle.lxtr_spec.specs.declared.Reason.{Reason}
+use Rattle.lxtr_spec.specs.declared.Reason.the-variants.{NoReason}
 use Rattle.lxtr_laws.specs.ExampleTables as tables
 pub use Rattle.lxtr_laws.specs.ExampleTables.{_and_}
 use Rattle.lxtr_demands.specs.TypingPositions.{Move, moved, movedBy, definedMoves, library, definedHostMoves, host}
@@ -58,6 +61,9 @@ pub data Example : Type 0 where
   typed : List ℕ → List Move → Option ℕ → Bool → ℕ → Example
   -- an image over which a typing position stays and answers neither a value nor longer keys; the refusal or 0
   position-stays : List ℕ → TypingPosition → ℕ → Example
+  -- image, query, why it is found or not, number for the host program; and a refused image or query, its refusal
+  why : List ℕ → List ℕ → Reason → ℕ → Example
+  why-refused : List ℕ → List ℕ → ℕ → Example
   -- image and query bytes that the searches refuse, the refusal
   query-refused : List ℕ → List ℕ → ℕ → Example
   -- image, query bytes, bytes of room that completion refuses, the refusal
@@ -108,6 +114,8 @@ Holds (position-stays b p k) =
     (pushOf b p 0x61 ≡ record { refusal = k; position = p }) × (hostPushOf b (positionNumber p) 0x61 ≡ positionNumber p)
     × (backOf b p ≡ record { refusal = k; position = p }) × (hostBackOf b (positionNumber p) ≡ positionNumber p)
     × (positionProbeOf b p ≡ record { refusal = k; value = none; longer = false }) × (positionProbeNumber b (positionNumber p) ≡ k * 2 ^ 40)
+Holds (why b xs r n) = (whyOf b (beWords xs) ≡ record { refusal = 0; reason = r }) × (whyNumber b (beWords xs) ≡ n)
+Holds (why-refused b q k) = (whyOf b q ≡ record { refusal = k; reason = NoReason }) × (whyNumber b q ≡ k * 2 ^ 40)
 Holds (query-refused b q k) =
     (exactOf b q ≡ record { refusal = k; value = none }) × (exactNumber b q ≡ k * 2 ^ 40)
     × (prefixesOf b q ≡ record { refusal = k; count = 0; lengths = replicate lengthCount 0; values = replicate lengthCount 0 })
@@ -140,5 +148,5 @@ AllHold es = tables.AllHold Holds es
 
 -- every definition that a row runs: to unfold this name is to unfold them all
 unfoldable pub computing : Unit {0}
-unfolding anyBelow countBelow firstFrom firstBelow le32 be32 leBytes beBytes leWords beWords isScalar maxLabels labelsFrom labelsOf slotUnder codeUnder magic version slotCount childCount mapLength baseWord checkWord isLeaf hasLeaf parent hasParent base valueNumber slotFrom codeTo offset child listWidth mapVersion labelCount labelAt labelOfCode codeFrom codeOf refuseIf firstRefusal unlessRefused tooShort byteDiffers magicDiffers versionWrong reservedSet sizesWrong lengthWrong mapWrong offsetEndsWrong headerRefusal sameLabel labelWrong labelsWrong isUsedFrom2 isUsed ownCode bothZero usedSlotWrong endExists flagWrong slotWrong slotsWrong offsetFalls usedCount entryWrong codeNotAbove entryWrongIn entriesWrong childless rootWrong listsWrong reaches unreachable someUnreachable bodyRefusal imageRefusal isEnd endCount checkOf faultIf labelFault slotFault offsetFault entryFaultOf entryFault isEntry unlisted unlistedFault childlessFault listFault reachFault faultBy faultOf larger highestBelow highestOf step stepBy walk walkWithin leafValue valueAt valueReached valueOf longerAt queryRefusal searchRefusal exactValue exactOf lengthMatch matchAt matches prefixMatches prefixesAnswer prefixesOf lastLength longestLength longestOf probeAnswer probeAt probeOf freshPosition allWalked slotBy oneMore maxTyped pushed oneLess takenBack isPlaced moveAnswer movedTo pushOf backOf reachedSlot positionProbeOf moved movedBy concatFrom entryPairs listFrom pairsAt pairsBelow recordOf recordsOf fitting listingOf listedIn completionAnswer written completionRefusal completionOf hostNumber valueNumbered checkNumber exactNumber probeNumber longestNumber placeNumber faultNumbered faultNumber highestNumber placeWords alternately atFront placesAfter prefixesNumber hostPrefixesOf positionNumber positionOf hostFresh hostPushOf hostBackOf positionProbeNumber completionNumber hostCompletionOf builtNumber hostBuildOf comesBefore listVersion keyCount keyLength keyLabel nextKey keyLabels keyAt keysFrom pairsOf noScalarAt notAbove keyRefusal keysRefusal listRefusal insert insertAll labelsUsed occurrences frequency goesBefore rankIn ranked mapOf codeIn labelWith baseAt checkAt isTakenFrom2 isFree fits firstFitFrom firstFit nextCode childCodes below endValue putChild putChildren putParent settle intoEach place headerBytes mapBytes imageBytes slotsUsed isChild childBy childrenOf childrenIn offsetsFrom imageIn slotsIn placedIn withRoom fromPlaced fromLabels fromKeys outcomeOf answered workAfter buildOf keyRecords keyList p1 p2 nodes3 offsets3 children3 labels3 p3 p7 p8-check p8-slot p9-labels p9-longer p10 p11
+unfolding anyBelow countBelow firstFrom firstBelow le32 be32 leBytes beBytes leWords beWords isScalar maxLabels labelsFrom labelsOf slotUnder codeUnder magic version slotCount childCount mapLength baseWord checkWord isLeaf hasLeaf parent hasParent base valueNumber slotFrom codeTo offset child listWidth mapVersion labelCount labelAt labelOfCode codeFrom codeOf refuseIf firstRefusal unlessRefused tooShort byteDiffers magicDiffers versionWrong reservedSet sizesWrong lengthWrong mapWrong offsetEndsWrong headerRefusal sameLabel labelWrong labelsWrong isUsedFrom2 isUsed ownCode bothZero usedSlotWrong endExists flagWrong slotWrong slotsWrong offsetFalls usedCount entryWrong codeNotAbove entryWrongIn entriesWrong childless rootWrong listsWrong reaches unreachable someUnreachable bodyRefusal imageRefusal isEnd endCount checkOf faultIf labelFault slotFault offsetFault entryFaultOf entryFault isEntry unlisted unlistedFault childlessFault listFault reachFault faultBy faultOf larger highestBelow highestOf step stepBy walk walkWithin leafValue valueAt valueReached valueOf longerAt queryRefusal searchRefusal exactValue exactOf lengthMatch matchAt matches prefixMatches prefixesAnswer prefixesOf lastLength longestLength longestOf probeAnswer probeAt probeOf freshPosition allWalked slotBy oneMore maxTyped pushed oneLess takenBack isPlaced moveAnswer movedTo pushOf backOf reachedSlot positionProbeOf moved movedBy endedWith stoppedAt reasonFrom reasonOf whyOf reasonNumber reasonPlace concatFrom entryPairs listFrom pairsAt pairsBelow recordOf recordsOf fitting listingOf listedIn completionAnswer written completionRefusal completionOf hostNumber valueNumbered checkNumber exactNumber probeNumber longestNumber placeNumber faultNumbered faultNumber highestNumber reasonNumbered whyNumber placeWords alternately atFront placesAfter prefixesNumber hostPrefixesOf positionNumber positionOf hostFresh hostPushOf hostBackOf positionProbeNumber completionNumber hostCompletionOf builtNumber hostBuildOf comesBefore listVersion keyCount keyLength keyLabel nextKey keyLabels keyAt keysFrom pairsOf noScalarAt notAbove keyRefusal keysRefusal listRefusal insert insertAll labelsUsed occurrences frequency goesBefore rankIn ranked mapOf codeIn labelWith baseAt checkAt isTakenFrom2 isFree fits firstFitFrom firstFit nextCode childCodes below endValue putChild putChildren putParent settle intoEach place headerBytes mapBytes imageBytes slotsUsed isChild childBy childrenOf childrenIn offsetsFrom imageIn slotsIn placedIn withRoom fromPlaced fromLabels fromKeys outcomeOf answered workAfter buildOf keyRecords keyList p1 p2 nodes3 offsets3 children3 labels3 p3 p7 p8-check p8-slot p9-labels p9-longer p10 p11
 computing = tt

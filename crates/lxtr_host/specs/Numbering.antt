@@ -3,11 +3,12 @@ use Prim.Native.Nat.{ℕ, _+_, _*_}
 use mathlib.Core.Path.{_≡_, refl}
 use mathlib.Core.Bool.{Bool, true, false}
 use mir.Val.{boolByte}
-use Rattle.lxtr_spec.specs.HostNumbers.{hostNumber, valueNumbered, faultNumbered}
+use Rattle.lxtr_spec.specs.HostNumbers.{hostNumber, valueNumbered, faultNumbered, reasonNumbered}
 use Rattle.lxtr_spec.specs.Answers.{found}
 use Rattle.lxtr_spec.specs.declared.Found.{Found}
 use Rattle.lxtr_spec.specs.declared.Found.the-variants.{Is, Nothing}
 use Rattle.lxtr_spec.specs.declared.Fault.{Fault}
+use Rattle.lxtr_spec.specs.declared.Reason.{Reason}
 
 pub number-added : (k n : ℕ) (more valued : Bool) → k * 0x100_0000_0000 + boolByte more * 0x2_0000_0000 + boolByte valued * 0x1_0000_0000 + n ≡ hostNumber k more valued n
 unfolding hostNumber
@@ -29,3 +30,7 @@ module _ (k : ℕ) (more : Bool) (f : Found) (n : ℕ) where
 -- the number for a fault, by its case
 pub fault-case : (f g : Fault) (n : ℕ) → f ≡ g → n ≡ faultNumbered g → n ≡ faultNumbered f
 fault-case f g n e h = rw e h
+
+-- the number for a reason, by its case
+pub reason-case : (k : ℕ) (r s : Reason) (n : ℕ) → r ≡ s → n ≡ reasonNumbered k s → n ≡ reasonNumbered k r
+reason-case k r s n e h = rw e h

@@ -1,15 +1,17 @@
 // The 64-bit number that an operation returns to a host program.
 ghost use mathlib.Core.Path.{_≡_};
-ghost use Rattle.lxtr_spec.specs.HostNumbers.{hostNumber, valueNumbered, placeNumber, faultNumbered};
+ghost use Rattle.lxtr_spec.specs.HostNumbers.{hostNumber, valueNumbered, placeNumber, faultNumbered, reasonNumbered};
 ghost use Rattle.lxtr_spec.specs.Answers.{found};
 use lxtr_spec::Fault;
 use lxtr_spec::Found;
+use lxtr_spec::Reason;
 use lxtr_spec::refusals::UNREACHABLE;
 use lxtr_spec::refusals::WRONG_LABELS;
 use lxtr_spec::refusals::WRONG_LISTS;
 use lxtr_spec::refusals::WRONG_SLOTS;
 
-// The parts of a number: REFUSAL times the refusal, MORE and VALUE for the two marks, and KIND times the kind of a fault.
+// The parts of a number: REFUSAL times the refusal, MORE and VALUE for the two marks, and KIND times the kind of a fault or the number
+// of a reason.
 const REFUSAL: u64 = 0x100_0000_0000;
 
 const MORE: u64 = 0x2_0000_0000;
@@ -35,7 +37,7 @@ pub fn value_numbered(refusal: u8, more: bool, value: Found) -> u64
     }
 }
 
-// The number of a place at fault.
+// The number of a place, of a fault or in a query.
 fn place_number(refusal: u8, kind: u8, place: u32) -> u64
     ensures { λ r. ⌜ r ≡ placeNumber refusal kind place ⌝ }
 {
@@ -56,5 +58,19 @@ pub fn fault_numbered(fault: Fault) -> u64
         Fault::Childless(s) => place_number(WRONG_LISTS, 4, s),
         Fault::RootBase => place_number(WRONG_LISTS, 5, 1),
         Fault::Unreachable(s) => place_number(UNREACHABLE, 0, s),
+    }
+}
+
+// The number for why a query is found or not.
+pub fn reason_numbered(refusal: u8, reason: Reason) -> u64
+    ensures { λ r. ⌜ r ≡ reasonNumbered refusal reason ⌝ }
+{
+    match reason {
+        Reason::NoReason => place_number(refusal, 0, 0),
+        Reason::IsFound => place_number(refusal, 1, 0),
+        Reason::NotListed(i) => place_number(refusal, 2, i),
+        Reason::NoStep(i) => place_number(refusal, 3, i),
+        Reason::NoKeyEnds => place_number(refusal, 4, 0),
+        Reason::TooLong => place_number(refusal, 5, 0),
     }
 }

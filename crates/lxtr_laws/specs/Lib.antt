@@ -42,5 +42,6 @@ pub mod Stepping
 pub mod QueryLabels
 pub mod Walking
 pub mod SearchReturns
+pub mod WalkReasons
 -- how a table of computed examples is stated and proved
 pub mod ExampleTables

@@ -1,5 +1,7 @@
-// The inspector's commands that check and search an image: check, exact, prefixes, longest, probe and complete. Each calls the
+// The inspector's commands that check and search an image: check, exact, prefixes, longest, probe, why and complete. Each calls the
 // proved operation and prints its answer. The last line is one word, for scripts.
+mod reasons; // why
+
 ghost use mathlib.Core.Path.{_≡_};
 ghost use mathlib.Core.Bool.{true};
 ghost use Rattle.lxtr_lines.specs.Records.{isWholeRecord};
@@ -34,6 +36,7 @@ use lxtr_spec::Found;
 use lxtr_spec::LENGTH_COUNT;
 use lxtr_spec::MAX_LABELS;
 use lxtr_text::LINE_ROOM;
+pub use reasons::why;
 
 // Room for the completions of a prefix. It is lent as an array, so that no proof has to count its elements.
 const LISTING_ROOM: usize = 2097152;

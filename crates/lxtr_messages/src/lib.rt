@@ -2,6 +2,7 @@
 // the marks of a sentence are filled is proved in `lxtr_text`.
 mod refusals; // the sentence of each refusal, and of each place at fault
 
+use lxtr_lines::keys::append_text;
 use lxtr_output::print;
 use lxtr_output::text_at;
 use lxtr_text::LINE_ROOM;
@@ -88,6 +89,34 @@ pub const FINISH_OUT: u8 = 35;
 
 pub const NOTHING_AT_FINISH: u8 = 36;
 
+pub const PLACE: u8 = 37;
+
+pub const HAS_WORD: u8 = 38;
+
+pub const NO_WORD_WITH: u8 = 39;
+
+pub const NO_WORD_BEGINS: u8 = 40;
+
+pub const WORDS_BEGIN: u8 = 41;
+
+pub const NONE_WITH: u8 = 42;
+
+pub const ONLY_LONGER_WORDS: u8 = 43;
+
+pub const EMPTY_TEXT: u8 = 44;
+
+pub const FOUND_IN_REFUSED: u8 = 45;
+
+pub const NOT_LISTED: u8 = 46;
+
+pub const NO_STEP: u8 = 47;
+
+pub const FROM_ROOT: u8 = 48;
+
+pub const AFTER: u8 = 49;
+
+pub const NO_KEY_ENDS: u8 = 50;
+
 // Prints a sentence. The marks in it stand for the two numbers.
 pub fn tell(sentence: u8, first: u32, second: u32) {
     print_form(
@@ -128,7 +157,21 @@ pub fn tell(sentence: u8, first: u32, second: u32) {
               waits: |\
               nothing waits\n|\
               goes out at the finish: |\
-              nothing goes out at the finish\n|",
+              nothing goes out at the finish\n|\
+              place %: |\
+              the dictionary has this word\n|\
+              the dictionary has no word with |\
+              no word begins with |\
+              words begin with |\
+              , none with |\
+              it is not a word, but longer words begin with it\n|\
+              the empty text is not a word\n|\
+              it is found, but the check refuses the image\n|\
+              the code map does not list |\
+              there is no step by |\
+              \x20from slot 1|\
+              \x20after |\
+              all labels are walked, but no key ends there\n|",
             sentence,
         ),
         first,
@@ -138,6 +181,13 @@ pub fn tell(sentence: u8, first: u32, second: u32) {
 
 pub fn say(sentence: u8) {
     tell(sentence, 0, 0);
+}
+
+// Prints the labels that a sentence names, as text. There are at most as many as fit a line.
+pub fn print_text(labels: &[u8]) {
+    let mut line = [0u8; LINE_ROOM];
+    let length = append_text(&mut line, 0, labels);
+    print(&line[..length]);
 }
 
 // Prints a last line that is none of these.
@@ -168,6 +218,7 @@ pub fn print_usage() {
           lxtr prefixes IMAGE TEXT      the words that a text begins with\n\
           lxtr longest IMAGE TEXT       the longest of them\n\
           lxtr probe IMAGE WORD         the value of a word; whether longer words begin with it\n\
+          lxtr why IMAGE WORD           why a word is missing, and at which letter\n\
           lxtr complete IMAGE [PREFIX]  the words that begin with a prefix, in code order\n\
           lxtr build KEYS IMAGE         makes the image of a key list\n\
           lxtr keys TEXT KEYS           makes a key list from a text file, one word per line\n\

@@ -11,10 +11,12 @@ use Rattle.lxtr_spec.specs.FaultPlaces.{faultOf}
 use Rattle.lxtr_spec.specs.HighestValues.{highestOf}
 use Rattle.lxtr_spec.specs.Searches.{searchRefusal, exactOf, prefixesOf, longestLength, probeOf}
 use Rattle.lxtr_spec.specs.Positions.{TypingPosition, freshPosition, pushOf, backOf, positionProbeOf}
+use Rattle.lxtr_spec.specs.Reasons.{whyOf, reasonNumber, reasonPlace}
 use Rattle.lxtr_spec.specs.Completions.{completionOf}
 use Rattle.lxtr_spec.specs.Builds.{buildOf}
 use Rattle.lxtr_spec.specs.declared.Fault.{Fault}
 use Rattle.lxtr_spec.specs.declared.Fault.the-variants.{Nowhere, Label, Slot, Offset, Entry, Unlisted, Childless, RootBase, Unreachable}
+use Rattle.lxtr_spec.specs.declared.Reason.{Reason}
 use Rattle.lxtr_spec.specs.declared.Prefixes.{Prefixes}
 use Rattle.lxtr_spec.specs.declared.Completion.{Completion}
 use Rattle.lxtr_spec.specs.declared.Built.{Built}
@@ -66,6 +68,13 @@ faultNumber b = faultNumbered (faultOf b)
 -- The highest value, or none.
 unfoldable pub highestNumber : List ℕ → ℕ
 highestNumber b = valueNumbered (highestOf b .refusal) false (highestOf b .value)
+
+-- Why a query is found or not: its refusal, the reason, and the place.
+unfoldable pub reasonNumbered : ℕ → Reason → ℕ
+reasonNumbered k r = placeNumber k (reasonNumber r) (reasonPlace r)
+
+unfoldable pub whyNumber : List ℕ → List ℕ → ℕ
+whyNumber b q = reasonNumbered (whyOf b q .refusal) (whyOf b q .reason)
 
 -- Prefixes: the count; in lent words, length and value alternately, shortest first.
 pub record HostPrefixes : Type 0 where

@@ -1,5 +1,5 @@
-// The answer types, the limits and the refusal numbers. Their meaning is defined in specs/, which holds document 01, with requests 2
-// and 3 of document 02, as definitions.
+// The answer types, the limits and the refusal numbers. Their meaning is defined in specs/, which holds document 01, with requests 2,
+// 3 and 5 of document 02, as definitions.
 pub mod refusals; // the number of each refusal
 
 // The largest number of labels in a key, and the number of possible lengths that follows from it.
@@ -83,6 +83,27 @@ pub struct Probe {
     pub refusal: u8,
     pub value: Found,
     pub longer: bool,
+}
+
+// Why a query is found or not. A place counts the labels of the query from 0: it is the first at which the walk stops.
+pub enum Reason {
+    // refused
+    NoReason,
+    // it has a value
+    IsFound,
+    // a label that isn't listed, at this place
+    NotListed(u32),
+    // a listed label with no step, at this place
+    NoStep(u32),
+    // all labels walked, but no key ends there
+    NoKeyEnds,
+    // more than MAX_LABELS labels
+    TooLong,
+}
+
+pub struct Why {
+    pub refusal: u8,
+    pub reason: Reason,
 }
 
 // The completions: how many were written, and whether the listing stopped for lack of room.

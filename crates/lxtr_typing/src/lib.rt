@@ -2,7 +2,6 @@
 // and what waits. The last line is one word, for scripts.
 use lxtr_lines::keys::append_labels;
 use lxtr_lines::keys::append_spaced;
-use lxtr_lines::keys::append_text;
 use lxtr_messages::FINISH_OUT;
 use lxtr_messages::NOTHING_AT_FINISH;
 use lxtr_messages::NOTHING_OUT;
@@ -10,6 +9,7 @@ use lxtr_messages::NOTHING_WAITS;
 use lxtr_messages::OUT;
 use lxtr_messages::TYPED;
 use lxtr_messages::WAITS;
+use lxtr_messages::print_text;
 use lxtr_messages::refuse;
 use lxtr_messages::refuse_at;
 use lxtr_messages::say;
@@ -36,14 +36,7 @@ fn fresh() -> State {
     }
 }
 
-// Prints labels as text. There are at most as many as fit a line, here and in the next function.
-fn print_text(labels: &[u8]) {
-    let mut line = [0u8; LINE_ROOM];
-    let length = append_text(&mut line, 0, labels);
-    print(&line[..length]);
-}
-
-// Prints labels in hexadecimal, with a space before each.
+// Prints labels in hexadecimal, with a space before each. There are at most as many as fit a line.
 fn print_numbers(labels: &[u8]) {
     let mut line = [0u8; LINE_ROOM];
     let length = append_labels(&mut line, 0, labels, 0);

@@ -1,15 +1,15 @@
 -- The search that starts at the map's first place finds a listed label's code, since no label is listed twice.
--- What the search finds is a code of the label.
+-- What the search finds is a code of the label; if it finds none, the label is not listed.
 use Prim.Native.Nat.{ℕ, zero, suc, _+_, _-_, _≤_, _<_}
 use native.Mathlib.Nat.{not-suc-le-zero, zero-add}
 use native.Mathlib.Omega.{arith}
 use mathlib.Core.Path.{_≡_, refl, sym, _∙_}
 use mathlib.Core.Logic.{_≢_}
 use mathlib.Core.List.{List}
-use mathlib.Core.Option.{Option, some}
+use mathlib.Core.Option.{Option, some, none, Option·none-ne-some}
 use mathlib.Core.Bool.{Bool, true, false}
 use lib.Dec.{eqb}
-use borrow.Author.Tests.{eqb-true, eq-eqb, ne-eqb}
+use borrow.Author.Tests.{eqb-true, eqb-false, eq-eqb, ne-eqb}
 use Rattle.lxtr_spec.specs.Image.{labelCount, labelAt, labelOfCode, codeOf, codeFrom}
 use Rattle.lxtr_spec.specs.Sets.{Listed, Framed}
 
@@ -39,6 +39,22 @@ module _ (b : List ℕ) (x : ℕ) where
   finds (suc n) i (suc m) h e d =
       let l : i + suc m ≡ i + 1 + m = omega arith in
       rw (ne-eqb (labelAt b i) x (d i (omega arith)), codeFrom, l) (finds n (i + 1) m (omega arith) (rw l at e) (λ j k. d j (omega arith)))
+
+  -- a label that is at one of these places is found
+  missing : (n i m : ℕ) → codeFrom b x n i ≡ none → m < n → labelAt b (i + m) ≢ x
+  unfolding codeFrom
+  missing zero i m e h l = not-suc-le-zero h
+  missing (suc n) i m e h l = go (missing n (i + 1)) (eqb (labelAt b i) x) refl m e h l
+    where
+      go : ((m : ℕ) → codeFrom b x n (i + 1) ≡ none → m < n → labelAt b (i + 1 + m) ≢ x) → (a : Bool) → eqb (labelAt b i) x ≡ a → (m : ℕ)
+          → _≡_ {A = Option ℕ} (elim a [ true ↦ some (i + 1) | false ↦ codeFrom b x n (i + 1) ]) none → m < suc n → labelAt b (i + m) ≡ x → ⊥
+      go ih true t m f h l = Option·none-ne-some (i + 1) (sym f)
+      go ih false t zero f h l = let e : i + 0 ≡ i = omega arith in eqb-false (labelAt b i) x t (rw e at l)
+      go ih false t (suc m) f h l = let e : i + suc m ≡ i + 1 + m = omega arith in ih m f (omega arith) (rw e at l)
+
+  pub code-missing : codeOf b x ≡ none → (c : ℕ) → Listed b x c → ⊥
+  unfolding codeOf labelOfCode
+  code-missing e c l = missing (labelCount b) 0 (c - 1) e (omega (arith, l .from, l .to)) (rw (zero-add (c - 1)) (l .label))
 
   pub code-listed : (c : ℕ) → codeOf b x ≡ some c → Listed b x c
   unfolding codeOf labelOfCode

@@ -15,6 +15,7 @@ pub enum Function {
     Probe,
     Longest,
     Prefixes,
+    Why,
     Push,
     Back,
     Position,
@@ -26,7 +27,7 @@ pub enum Function {
 }
 
 impl Function {
-    pub const ALL: [Function; 15] = [
+    pub const ALL: [Function; 16] = [
         Function::Check,
         Function::Fault,
         Function::Highest,
@@ -34,6 +35,7 @@ impl Function {
         Function::Probe,
         Function::Longest,
         Function::Prefixes,
+        Function::Why,
         Function::Push,
         Function::Back,
         Function::Position,
@@ -46,8 +48,8 @@ impl Function {
 
     pub fn name(self) -> &'static str {
         [
-            "check", "fault", "highest", "exact", "probe", "longest", "prefixes", "push", "back",
-            "position", "complete", "type", "finish", "build", "list",
+            "check", "fault", "highest", "exact", "probe", "longest", "prefixes", "why", "push",
+            "back", "position", "complete", "type", "finish", "build", "list",
         ][self as usize]
     }
 
@@ -84,6 +86,7 @@ pub enum Call<'a> {
     Probe { image: &'a [u8], query: &'a [u8] },
     Longest { image: &'a [u8], query: &'a [u8] },
     Prefixes { image: &'a [u8], query: &'a [u8], places: usize },
+    Why { image: &'a [u8], query: &'a [u8] },
     Moves { images: Images<'a>, moves: &'a [(usize, Move)] },
     Complete { image: &'a [u8], prefix: &'a [u8], room: usize },
     Type { image: &'a [u8], kana: &'a [u8], state: &'a [u8], typed: &'a [u8], room: usize },
@@ -102,6 +105,7 @@ impl<'a> Call<'a> {
             Call::Probe { .. } => Function::Probe,
             Call::Longest { .. } => Function::Longest,
             Call::Prefixes { .. } => Function::Prefixes,
+            Call::Why { .. } => Function::Why,
             Call::Moves { .. } => Function::Position,
             Call::Complete { .. } => Function::Complete,
             Call::Type { .. } => Function::Type,
@@ -119,7 +123,8 @@ impl<'a> Call<'a> {
             }
             Call::Exact { image, query }
             | Call::Probe { image, query }
-            | Call::Longest { image, query } => [image, query, &[]],
+            | Call::Longest { image, query }
+            | Call::Why { image, query } => [image, query, &[]],
             Call::Prefixes { image, query, .. } => [image, query, &[]],
             Call::Moves { images, .. } => images,
             Call::Complete { image, prefix, .. } => [image, prefix, &[]],
@@ -158,6 +163,7 @@ impl<'a> Call<'a> {
             Call::Prefixes { image, query, .. } => {
                 answers::prefixes(rules, image, query, lent.words())
             }
+            Call::Why { image, query } => answers::why(rules, image, query),
             Call::Moves { images, moves } => {
                 lent.put_numbers(&answers::moves(rules, &images, moves))
             }

@@ -4,17 +4,20 @@
 use crate::archive::{Answered, Archive};
 use crate::call::{Call, Function, Images};
 use crate::lent::{Lent, Parts};
-use crosscheck::answers::value_number;
-use crosscheck::common::{query_of, Refusal};
+use crosscheck::answers::{value_number, why_number};
+use crosscheck::common::{labels_in, query_of, Refusal};
 use crosscheck::image::Image;
 use crosscheck::oracle::{self, Pair};
 use crosscheck::position::{replay, Move};
 use crosscheck::rules::{Rules, Wrong};
+use crosscheck::why::Reason;
 use std::collections::HashMap;
 
 const SHOWN_DIFFERENCES: u64 = 10;
 /// One more than the highest number of a refusal.
 const REFUSALS: usize = 30;
+/// One more than the highest number that an answer has bits for, of a part of rule 11 or of a reason.
+const PARTS: usize = 8;
 
 /// A wrong variant, and the comparison that distinguished it from the documents.
 struct Variant {
@@ -35,9 +38,12 @@ pub struct Comparison {
     /// How often each function gave each refusal, 0 for none.
     seen: [[u64; REFUSALS]; Function::ALL.len()],
     /// How often a fault lay in each part of rule 11, 0 for other rules.
-    list_faults: [u64; 8],
+    list_faults: [u64; PARTS],
+    /// How often each reason why a word is missing was given, 0 for none.
+    reasons: [u64; PARTS],
     variants: Vec<Variant>,
     oracle: OracleScore,
+    last_set: Option<LastSet>,
 }
 
 /// Images compared with the set oracle.
@@ -45,6 +51,15 @@ pub struct Comparison {
 struct OracleScore {
     images: u64,
     with_set: u64,
+    /// How often a set gave each reason.
+    reasons: [u64; PARTS],
+}
+
+/// The last image with a set, its listed labels, and the set.
+struct LastSet {
+    image: Vec<u8>,
+    listed: Vec<u32>,
+    set: Vec<Pair>,
 }
 
 impl Comparison {
@@ -60,9 +75,11 @@ impl Comparison {
             different: 0,
             unmet: 0,
             seen: [[0; REFUSALS]; Function::ALL.len()],
-            list_faults: [0; 8],
+            list_faults: [0; PARTS],
+            reasons: [0; PARTS],
             variants: Wrong::ALL.iter().map(variant).collect(),
             oracle: OracleScore::default(),
+            last_set: None,
         }
     }
 
@@ -96,8 +113,11 @@ impl Comparison {
             Call::Moves { moves, .. } => self.count_moves(moves),
             _ => self.count(call.function(), answer),
         }
-        if call.function() == Function::Fault {
-            self.list_faults[(answer >> 34 & 7) as usize] += 1;
+        let part = (answer >> 34) as usize % PARTS;
+        match call {
+            Call::Fault { .. } => self.list_faults[part] += 1,
+            Call::Why { .. } => self.reasons[part] += 1,
+            _ => {}
         }
         if !same {
             self.different += 1;
@@ -215,6 +235,8 @@ impl Comparison {
             Some(set) if answer == set.len() as u64 => {
                 self.oracle.with_set += 1;
                 self.whole_set(image, &set);
+                self.last_set =
+                    Some(LastSet { image: image.to_vec(), listed: parsed.map.labels, set });
             }
             None if answer >> 40 != 0 => {}
             set => {
@@ -250,11 +272,31 @@ impl Comparison {
         self.score(&call, &answered, set.len() as u64);
     }
 
+    /// Compares the reason for a query, and over the last image with a set also the one that the set
+    /// gives. Returns the archive's answer.
+    pub fn why(&mut self, image: &[u8], query: &[u8]) -> u64 {
+        let call = Call::Why { image, query };
+        let answer = self.call(call);
+        let last = self.last_set.as_ref().filter(|last| last.image == image);
+        if let Some(last) = last.filter(|_| query.len().is_multiple_of(4)) {
+            let why = oracle::why(&last.set, &last.listed, &labels_in(query));
+            self.oracle.reasons[why.reason as usize] += 1;
+            if answer != why_number(why) {
+                self.require(false, "the set gives another reason");
+                self.show(&call, answer, why_number(why));
+            }
+        }
+        answer
+    }
+
     /// Prints the tables. Returns how many comparisons and variants came out right and wrong.
     pub fn report(&self) -> (u64, u64) {
         self.print_refusals();
         println!("faults in the parts of rule 11: {:?}", &self.list_faults[1..=5]);
         println!("set oracle: {} images, {} with a set", self.oracle.images, self.oracle.with_set);
+        let last = Reason::ALL.len();
+        println!("reasons from why: {:?}", &self.reasons[1..=last]);
+        println!("reasons from the set oracle: {:?}", &self.oracle.reasons[1..=last]);
         let never = self.never_seen();
         let unnoticed = self.print_variants();
         let right = self.compared - self.different + (self.variants.len() as u64 - unnoticed);
@@ -280,13 +322,19 @@ impl Comparison {
         }
     }
 
-    /// Prints and counts the refusals, and parts of rule 11, that a function can
-    /// give but never gave.
+    /// Prints and counts the refusals, parts of rule 11 and reasons that a function
+    /// can give but never gave.
     fn never_seen(&self) -> u64 {
         let mut never = 0;
         for part in (1..=5).filter(|part| self.list_faults[*part] == 0) {
             println!("NEVER SEEN: part {part} of rule 11 from fault");
             never += 1;
+        }
+        for (seen, from) in [(self.reasons, "why"), (self.oracle.reasons, "the set oracle")] {
+            for reason in Reason::ALL.iter().filter(|reason| seen[**reason as usize] == 0) {
+                println!("NEVER SEEN: reason {reason:?} from {from}");
+                never += 1;
+            }
         }
         for function in Function::ALL {
             for number in (1..REFUSALS).filter(|number| function.can_refuse(*number)) {

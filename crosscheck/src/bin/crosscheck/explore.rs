@@ -4,27 +4,31 @@ use crate::call::Call;
 use crate::comparison::Comparison;
 use crate::queries::any_query;
 use crate::tables::{any_texts, kana_of, state_of};
-use crosscheck::answers::PLACE_WORDS;
+use crosscheck::answers::{why_number, PLACE_WORDS};
 use crosscheck::common::{query_of, KEY_LABELS};
 use crosscheck::image::Image;
 use crosscheck::keylist::Key;
 use crosscheck::random::Random;
 use crosscheck::rules::Rules;
+use crosscheck::why::Reason;
 
-/// All four searches for one query.
+/// All four searches for one query, and the reason why it is missing, which has to agree with exact.
 pub fn search(comparison: &mut Comparison, image: &[u8], query: &[u8], places: usize) {
-    comparison.call(Call::Exact { image, query });
+    let exact = comparison.call(Call::Exact { image, query });
     comparison.call(Call::Probe { image, query });
     comparison.call(Call::Longest { image, query });
     comparison.call(Call::Prefixes { image, query, places });
+    let found = comparison.why(image, query) == why_number(Reason::Found.at(0));
+    comparison.require(found == (exact >> 32 == 1), "found is not exactly where exact has a value");
 }
 
 /// One search of any kind, with places of any length.
 pub fn any_search(comparison: &mut Comparison, random: &mut Random, image: &[u8], query: &[u8]) {
-    match random.below(4) {
+    match random.below(5) {
         0 => comparison.call(Call::Exact { image, query }),
         1 => comparison.call(Call::Probe { image, query }),
         2 => comparison.call(Call::Longest { image, query }),
+        3 => comparison.why(image, query),
         _ => comparison.call(Call::Prefixes { image, query, places: any_places(random) }),
     };
 }

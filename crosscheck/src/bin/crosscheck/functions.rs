@@ -33,6 +33,7 @@ extern "C" {
         places: *mut u32,
         places_len: usize,
     ) -> u64;
+    pub fn lxtr_why(image: *const u8, image_len: usize, query: *const u8, query_len: usize) -> u64;
     pub fn lxtr_position_fresh() -> u64;
     pub fn lxtr_position_push(image: *const u8, image_len: usize, position: u64, label: u32)
         -> u64;

@@ -4,11 +4,12 @@
 //! program, and the independent answer to it: the 64-bit number, every byte and
 //! word of lent memory with guard zones around it, or the program's text. Of a
 //! typing position, whose number is not specified, the answer after each move is
-//! compared. Besides that, the check, the highest value and the completion of the
-//! empty prefix are compared with the set oracle, typing in parts is compared with
-//! typing at once, a typing position must be the same whenever its labels are, and
-//! wrong variants of the independent implementation take part in the same
-//! comparisons: each must be noticed by a difference.
+//! compared. Besides that, the check, the highest value, the completion of the
+//! empty prefix and the reasons why words are missing are compared with the set
+//! oracle, typing in parts is compared with typing at once, a typing position must
+//! be the same whenever its labels are, and wrong variants of the independent
+//! implementation take part in the same comparisons: each must be noticed by a
+//! difference.
 //!
 //! Run with `cargo run --release --offline`, in this package's folder, after the
 //! archive `../target/staticlib/liblxtr_c.a` and the listing program
@@ -34,7 +35,7 @@ use comparison::Comparison;
 use crosscheck::random::Random;
 use stages::{
     bad_lists, damaged, edges, examples, large, lists, placed, position_examples, positions,
-    program, states, tiny, typing, typing_examples, wild,
+    program, reasons, states, tiny, typing, typing_examples, wild,
 };
 use std::process::ExitCode;
 use std::time::Instant;
@@ -57,6 +58,7 @@ fn main() -> ExitCode {
         println!("{name:<17} {compared:>8} comparisons {seconds:>6.1} s");
     };
     stage("examples", &|comparison, _| examples::run(comparison));
+    stage("reasons", &|comparison, _| reasons::run(comparison));
     stage("typing examples", &|comparison, _| typing_examples::run(comparison));
     stage("any states", &|comparison, random| states::run(comparison, random, amount));
     stage("position examples", &position_examples::run);

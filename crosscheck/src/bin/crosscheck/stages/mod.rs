@@ -10,6 +10,7 @@ pub mod placed;
 pub mod position_examples;
 pub mod positions;
 pub mod program;
+pub mod reasons;
 pub mod states;
 pub mod tiny;
 pub mod typing;

@@ -31,7 +31,7 @@ pub fn run(comparison: &mut Comparison, random: &mut Random) {
 
 /// Slot 1 that reaches itself; two slots that reach each other; a step to slot 0, and steps from
 /// there to slots whose parent is 0, slot 1 among them.
-fn cycles() -> [Image; 3] {
+pub fn cycles() -> [Image; 3] {
     let has_leaf = TOP_BIT;
     let leaf = |value: u32| TOP_BIT | value;
     let image = |nodes: [(u32, u32); 4], offsets: [u32; 5]| Image {

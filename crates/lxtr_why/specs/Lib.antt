@@ -1,0 +1,2 @@
+-- The returns of the code that finds the reason.
+pub mod ReasonReturns
