@@ -1,7 +1,7 @@
 /*
  * terminal: a small host program of a terminal. It loads an image, types a text label by label, and shows what is known after each
- * key press. At the end it shows why the text is not a key, unless it is one, and the completions. In the text, < takes the last
- * label back.
+ * key press. At the end it shows why the text is not a key, unless it is one or nothing was typed, and the completions. In the text,
+ * < takes the last label back.
  *
  *     terminal IMAGE TEXT
  */
@@ -80,7 +80,7 @@ static void show_why(const struct typed *typed, uint64_t answer)
 		write_labels(typed->query, place + 1);
 		break;
 	case LXTR_WHY_NO_KEY_ENDS:
-		printf("not found: no key ends here");
+		printf("not found: only longer keys begin with it");
 		break;
 	case LXTR_WHY_TOO_LONG:
 		printf("not found: no key has more than %d labels", LXTR_MAX_LABELS);
@@ -134,6 +134,7 @@ int main(int argc, char **argv)
 		show_probe(&typed, lxtr_position_probe(image, (size_t)length, typed.position));
 	}
 
+	/* Nothing is refused here: the image was checked, and the query has whole labels. */
 	if (typed.length > 0)
 		show_why(&typed, lxtr_why(image, (size_t)length, typed.query, typed.length));
 	uint64_t listed = lxtr_complete(image, (size_t)length, typed.query, typed.length, room, sizeof room);

@@ -42,7 +42,7 @@
  * the refusal is 0, nothing was refused. If not, it is a value of enum lxtr_reason, all other parts are 0, and lent memory is
  * unchanged (but lxtr_build clears its work: see there). If several reasons hold, the answer is the first of them, in the order
  * given at the function. lxtr_fault differs: along with a refusal it gives a kind and a number, and it answers 0 for an image that
- * lxtr_check refuses with 1 to 8. lxtr_why differs: if nothing is refused, it gives a reason, and a place as the number.
+ * lxtr_check refuses with 1 to 8. lxtr_why differs: if nothing is refused, it gives a value of enum lxtr_query_reason, and a place as the number.
  * lxtr_position_fresh, lxtr_position_push and lxtr_position_back answer a typing position instead, which is not taken apart.
  *
  * LAYOUT OF AN IMAGE; only needed to understand a refusal
@@ -147,9 +147,9 @@ enum lxtr_list_fault {
 
 /* Why a query is or is not a key, as lxtr_why tells it. */
 enum lxtr_query_reason {
-	LXTR_WHY_FOUND = 1,            /* the query is a key */
-	LXTR_WHY_LABEL_NOT_LISTED = 2, /* the image does not list the label at this place */
-	LXTR_WHY_NO_STEP = 3,          /* the image lists the label at this place, but the lookup has no step by it */
+	LXTR_WHY_FOUND = 1,            /* lxtr_exact answers a value */
+	LXTR_WHY_LABEL_NOT_LISTED = 2, /* the image does not list the query's label at this place */
+	LXTR_WHY_NO_STEP = 3,          /* the image lists the query's label at this place, but the lookup has no step by it */
 	LXTR_WHY_NO_KEY_ENDS = 4,      /* the lookup has a step by each label, but no key ends after the last */
 	LXTR_WHY_TOO_LONG = 5          /* the query has more than LXTR_MAX_LABELS labels */
 };
@@ -237,8 +237,8 @@ uint64_t lxtr_probe(const uint8_t *image, size_t image_length, const uint8_t *qu
  * the first label at which the lookup stops, counted in labels from 0, so the label is at query + 4 * place. With the other reasons
  * the place is 0. After a refusal both are 0.
  *
- * The reason is LXTR_WHY_FOUND exactly when lxtr_exact answers a value. It is LXTR_WHY_TOO_LONG for every query of more than
- * LXTR_MAX_LABELS labels. In an image that lxtr_check does not refuse, the other reasons mean:
+ * The reason is LXTR_WHY_FOUND exactly when lxtr_exact answers a value. It is LXTR_WHY_TOO_LONG exactly for the queries of
+ * more than LXTR_MAX_LABELS labels. In an image that lxtr_check does not refuse, the other reasons mean:
  * - LXTR_WHY_LABEL_NOT_LISTED, LXTR_WHY_NO_STEP: some key begins with the labels before the place, if there are any, but none with
  *   these and the label at the place. If this label is not listed, no key has it anywhere.
  * - LXTR_WHY_NO_KEY_ENDS: the query is empty, or longer keys begin with it, but it is not a key.

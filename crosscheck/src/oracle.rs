@@ -28,8 +28,8 @@ pub fn set_of(image: &Image) -> Option<Vec<Pair>> {
     (words_agree(image, &slots) && lists_agree(image, &slots)).then_some(pairs)
 }
 
-/// Why a query is missing in a set, or found: the place is the length of the longest front part that
-/// is one of some key too, so with one label more it is a front part of none.
+/// Why a query is missing in a set, or found. The place is the length of the longest front part of the
+/// query with which a key begins.
 pub fn why(set: &[Pair], listed: &[u32], labels: &[u32]) -> Why {
     let shared = |pair: &Pair| pair.labels.iter().zip(labels).take_while(|(a, b)| a == b).count();
     let place = set.iter().map(shared).max().unwrap_or(0);

@@ -115,6 +115,7 @@ wrong_variants! {
     EndCountsAsLonger: "longer keys exist wherever a list is not empty",
     FallingPairWraps: "a falling offset pair has a wrapped width",
     // Why a word is missing.
+    LastLabelStops: "the walk is told to stop at the last label",
     UnlistedBeforeNoStep: "a label that is not listed is told before an earlier one without a step",
     LastUnlistedTold: "the last label that is not listed is told",
     UnlistedIsNoStep: "a label that is not listed is told as one without a step",

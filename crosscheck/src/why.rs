@@ -94,11 +94,13 @@ impl Image {
         reason.at(place * rules.either(1, Wrong::StopCountedInBytes, 4))
     }
 
-    /// The place itself; wrong variants tell the place of another label that is not listed.
+    /// The place itself; wrong variants tell the place of another label.
     fn told_place(&self, rules: Rules, labels: &[u32], place: usize) -> usize {
         let is_unlisted = |place: &usize| self.map.code(labels[*place]).is_none();
         let mut unlisted = (0..labels.len()).filter(is_unlisted);
-        let other = if rules.breaks(Wrong::UnlistedBeforeNoStep) {
+        let other = if rules.breaks(Wrong::LastLabelStops) {
+            Some(labels.len() - 1)
+        } else if rules.breaks(Wrong::UnlistedBeforeNoStep) {
             unlisted.next()
         } else if rules.breaks(Wrong::LastUnlistedTold) && is_unlisted(&place) {
             unlisted.last()

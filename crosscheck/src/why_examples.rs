@@ -25,7 +25,7 @@ fn p3() -> Image {
 }
 
 /// Slot 1 is its own parent and reaches itself by A; it has a value.
-fn ring() -> Image {
+fn cycle() -> Image {
     let nodes = [(TOP_BIT | 7, 1), (0, TOP_BIT | 1)];
     Image {
         nodes: nodes.map(|(base, check)| Node { base, check }).to_vec(),
@@ -67,11 +67,11 @@ fn the_limit_of_a_key() {
     assert_eq!(why(&image, &[N; KEY_LABELS - 1]), NoKeyEnds.at(0));
     assert_eq!(why(&image, &[N; KEY_LABELS]), Found.at(0));
     assert_eq!(why(&image, &[N; KEY_LABELS + 1]), TooLong.at(0));
-    assert_eq!(why(&ring(), &[A; KEY_LABELS]), Found.at(0));
-    assert_eq!(why(&ring(), &[A; KEY_LABELS + 1]), TooLong.at(0));
+    assert_eq!(why(&cycle(), &[A; KEY_LABELS]), Found.at(0));
+    assert_eq!(why(&cycle(), &[A; KEY_LABELS + 1]), TooLong.at(0));
     let mut labels = [A; KEY_LABELS];
     labels[KEY_LABELS - 1] = X;
-    assert_eq!(why(&ring(), &labels), NotListed.at(KEY_LABELS - 1));
+    assert_eq!(why(&cycle(), &labels), NotListed.at(KEY_LABELS - 1));
 }
 
 #[test]

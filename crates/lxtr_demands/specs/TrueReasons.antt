@@ -24,7 +24,8 @@ Walks b xs = (n : ℕ) × (walk b 1 xs ≡ some n)
 abbrev pub ListedAt : List ℕ → List ℕ → ℕ → Type 0
 ListedAt b xs i = (c : ℕ) × Listed b (getD xs i 0) c
 
--- The walk of labels that are not too long stops at place i: every front part up to it walks, and none that has its label does.
+-- The reason is the true one: the place, counted from 0, is the first at which the walk stops, and every shorter front part walks.
+-- (The walk of labels that are not too long stops at place i: every front part up to it walks, and none that has its label does.)
 pub record StopsAt (b xs : List ℕ) (i : ℕ) : Type 0 where
   pub within : length xs ≤ maxLabels
   pub place : i < length xs
@@ -56,7 +57,7 @@ ReasonIn b d xs (NoStep i) = StopsIn d xs i × ListedAt b xs i
 ReasonIn b d xs NoKeyEnds = ((xs ≡ []) ⊎ Longer d xs) × (d xs ≡ none)
 ReasonIn b d xs TooLong = maxLabels < length xs
 
--- what holds of a program
+-- what a program answers, and what holds of the reasons
 pub record WhyDemand (why : List ℕ → List ℕ → Why) : Type 0 where
   -- Refusals: 1 to 8, then 13, no reason.
   pub refused : (b q : List ℕ) → searchRefusal b q ≢ 0 → why b q ≡ record { refusal = searchRefusal b q; reason = NoReason }

@@ -27,10 +27,12 @@ module _ (k : ℕ) (more : Bool) (f : Found) (n : ℕ) where
   unfolding valueNumbered
   none-number h e = rw h e
 
--- the number for a fault, by its case
-pub fault-case : (f g : Fault) (n : ℕ) → f ≡ g → n ≡ faultNumbered g → n ≡ faultNumbered f
-fault-case f g n e h = rw e h
+-- the number for a fault and for a reason, by its case
+by-case : {A : Type 0} (number : A → ℕ) (x y : A) (n : ℕ) → x ≡ y → n ≡ number y → n ≡ number x
+by-case number x y n e h = rw e h
 
--- the number for a reason, by its case
+pub fault-case : (f g : Fault) (n : ℕ) → f ≡ g → n ≡ faultNumbered g → n ≡ faultNumbered f
+fault-case = by-case faultNumbered
+
 pub reason-case : (k : ℕ) (r s : Reason) (n : ℕ) → r ≡ s → n ≡ reasonNumbered k s → n ≡ reasonNumbered k r
-reason-case k r s n e h = rw e h
+reason-case k = by-case (reasonNumbered k)

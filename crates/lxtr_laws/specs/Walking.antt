@@ -23,6 +23,34 @@ use Rattle.lxtr_laws.specs.KeyPrefixes.{Last, empty, snoc, last, length-
 use Rattle.lxtr_laws.specs.Stepping.{found-is, found-none}
 use Rattle.lxtr_laws.specs.StepFacts.{none-not-some, some-same, step-by-is, walk-empty, walk-append, walk-snoc}
 
+-- front parts of xs, over any bytes
+module _ (b xs : List ℕ) where
+  -- those of a front part that walks
+  pub walk-front : (k m t : ℕ) → k ≤ m → walk b 1 (take m xs) ≡ some t → (s : ℕ) × (walk b 1 (take k xs) ≡ some s)
+  walk-front k m t h e =
+      let split : take m xs ≡ take k xs ++ drop k (take m xs) = sym (take-append-drop k (take m xs)) ∙ ap (λ (p : List ℕ). p ++ drop k (take m xs)) (take-take k m xs h) in
+      let r = walk-append b 1 (take k xs) (drop k (take m xs)) t .0 (sym (ap (walk b 1) split) ∙ e) in
+      (r .0, r .1)
+
+  -- the first i labels reach slot n
+  module _ (i n : ℕ) (h : i < length xs) (reached : walk b 1 (take i xs) ≡ some n) where
+    one-more : take (i + 1) xs ≡ take i xs ++ getD xs i 0 ∷ []
+    one-more = ap (λ (k : ℕ). take k xs) (add-one i) ∙ take-suc xs i 0 h
+
+    pub walk-on : (t : ℕ) → stepBy b n (getD xs i 0) ≡ some t → walk b 1 (take (i + 1) xs) ≡ some t
+    walk-on t e =
+        let s = step-by-is b n (getD xs i 0) t .0 e in
+        rw one-more (walk-snoc b (take i xs) (getD xs i 0) t .1 (record { slot = n; code = s .0; walked = reached; coded = s .1; stepped = s .2 }))
+
+    stays : stepBy b n (getD xs i 0) ≡ none → (t : ℕ) → walk b 1 (take (i + 1) xs) ≡ some t → ⊥
+    stays e t g =
+        let r = walk-snoc b (take i xs) (getD xs i 0) t .0 (rw one-more at g) in
+        let same : r .slot ≡ n = some-same (sym (r .walked) ∙ reached) in
+        none-not-some (sym e ∙ step-by-is b n (getD xs i 0) t .1 (r .code, r .coded, rw same at (r .stepped)))
+
+    pub walk-stays : stepBy b n (getD xs i 0) ≡ none → (k t : ℕ) → i < k → walk b 1 (take k xs) ≡ some t → ⊥
+    walk-stays e k t l g = let r = walk-front (i + 1) k t (omega arith) g in stays e (r .0) (r .1)
+
 -- the first i labels reach slot n, which is one of the image's
 pub record Walked (b xs : List ℕ) (i n : ℕ) : Type 0 where
   pub so-far : i ≤ length xs
@@ -44,27 +72,13 @@ module _ (b xs : List ℕ) where
 
     -- f is what the step by the next label x answered
     module _ (x : ℕ) (f : Found) (turn : i < m) (label : x ≡ getD xs i 0) (answer : found f ≡ stepBy b n x) where
-      one-more : take (i + 1) xs ≡ take i xs ++ x ∷ []
-      one-more = rw label (ap (λ (k : ℕ). take k xs) (add-one i) ∙ take-suc xs i 0 (omega arith))
-
       pub walked-next : (t : ℕ) → f ≡ Is t → Walked b xs (i + 1) t
       walked-next t r =
-          let s = step-by-is b n x t .0 (found-is f t (stepBy b n x) answer r) in
-          let e = walk-snoc b (take i xs) x t .1 (record { slot = n; code = s .0; walked = w .reached; coded = s .1; stepped = s .2 }) in
-          record { so-far = omega arith; below = s .2 .below; reached = rw one-more e }
-
-      stays : stepBy b n x ≡ none → (t : ℕ) → walk b 1 (take (i + 1) xs) ≡ some t → ⊥
-      stays e t g =
-          let r = walk-snoc b (take i xs) x t .0 (rw one-more at g) in
-          let same : r .slot ≡ n = some-same (sym (r .walked) ∙ w .reached) in
-          none-not-some (sym e ∙ step-by-is b n x t .1 (r .code, r .coded, rw same at (r .stepped)))
+          let e = found-is f t (stepBy b n x) answer r in
+          record { so-far = omega arith; below = step-by-is b n x t .0 e .2 .below; reached = walk-on b xs i n (omega arith) (w .reached) t (rw label at e) }
 
       pub walked-stop : f ≡ Nothing → (k : ℕ) → i < k → walk b 1 (take k xs) ≡ none
-      walked-stop r k h = is-none (walk b 1 (take k xs)) (λ t e.
-          let rest = drop (i + 1) (take k xs) in
-          let split : take k xs ≡ take (i + 1) xs ++ rest = sym (take-append-drop (i + 1) (take k xs)) ∙ ap (λ (p : List ℕ). p ++ rest) (take-take (i + 1) k xs (omega arith)) in
-          let g = walk-append b 1 (take (i + 1) xs) rest t .0 (sym (ap (walk b 1) split) ∙ e) in
-          stays (found-none f (stepBy b n x) answer r) (g .0) (g .1))
+      walked-stop r k h = is-none (walk b 1 (take k xs)) (λ t. walk-stays b xs i n (omega arith) (w .reached) (rw label at (found-none f (stepBy b n x) answer r)) k t h)
 
       pub walk-stopped : f ≡ Nothing → none ≡ walk b 1 xs
       walk-stopped r = sym (rw take-length at (walked-stop r (length xs) (omega arith)))

@@ -1,5 +1,5 @@
-// The command why: why a word is found or not. What is said of words is proved of accepted images, so for any other image it is said
-// of the walk.
+// The command why: why a word is found or not. What it says of words holds of accepted images; of any other image it says where the
+// walk stops.
 use crate::end_found;
 use crate::print_word;
 use lxtr_lines::key_line;
@@ -98,7 +98,7 @@ fn print_no_step(is_accepted: bool, query: &[u8], place: u32) {
     }
 }
 
-// In an accepted image only the empty text can be walked without a longer word: if the dictionary is empty.
+// In an accepted image longer words begin with such a text. Only the empty text may have none: in an empty dictionary.
 fn print_no_end(is_accepted: bool, query: &[u8]) {
     if !is_accepted {
         say(NO_KEY_ENDS);

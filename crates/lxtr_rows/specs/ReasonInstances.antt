@@ -40,8 +40,8 @@ module _ (why : List ℕ → List ℕ → Why) (meets : WhyDemand why) where
   told f b q r e = ap f (sym e) ∙ ap (λ (a : Why). f (a .reason)) (only-answer b q)
 
   -- What it says is true.
-  pub says-the-truth : (b q : List ℕ) → searchRefusal b q ≡ 0 → TrueReason b (labelsOf q) (why b q .reason)
-  says-the-truth b q passes =
+  pub reason-is-true : (b q : List ℕ) → searchRefusal b q ≡ 0 → TrueReason b (labelsOf q) (why b q .reason)
+  reason-is-true b q passes =
       let (r, t) = why-demand .some-reason b (labelsOf q) in
       subst (TrueReason b (labelsOf q)) (sym (ap (λ (a : Why). a .reason) (meets .answer b q r passes t))) t
 
@@ -61,10 +61,10 @@ module _ (why : List ℕ → List ℕ → Why) (meets : WhyDemand why) where
   unfolding reasonNumber
   walking-first-fails e = omega (arith, told reasonNumber p3 (beWords (replicate (maxLabels + 1) 0x78)) (NotListed 0) e, over-3 .2)
 
-  -- One that believes HAS_LEAF fails, where no leaf is behind it.
-  pub believing-the-flag-fails : why p3-no-leaf (beWords (0x6E ∷ [])) .reason ≡ IsFound → ⊥
+  -- One that answers found where HAS_LEAF is set, although no leaf is there, fails.
+  pub flag-without-leaf-fails : why p3-no-leaf (beWords (0x6E ∷ [])) .reason ≡ IsFound → ⊥
   unfolding reasonNumber
-  believing-the-flag-fails e = omega (arith, told reasonNumber p3-no-leaf (beWords (0x6E ∷ [])) IsFound e, over-3 .3)
+  flag-without-leaf-fails e = omega (arith, told reasonNumber p3-no-leaf (beWords (0x6E ∷ [])) IsFound e, over-3 .3)
 
   -- One that gives a reason although it refuses fails.
   pub reason-though-refused-fails : (b q : List ℕ) → searchRefusal b q ≢ 0 → why b q .reason ≢ NoReason → ⊥

@@ -53,7 +53,7 @@ reasons =
     ∷ why to-zero (0x61 ∷ 0x61 ∷ []) NoKeyEnds 0x10_0000_0000
     -- 6E is listed twice, and its first code counts: the second one would have a step
     ∷ why p9-labels (0x6E ∷ 0x6E ∷ []) (NoStep 1) 0xC_0000_0001
-    -- refused: no bytes; one byte too many; a query that ends in a label, which comes after the image and before the length
+    -- refused: no bytes; one byte too many; a query that ends within a label: 13 comes after the refusals of the image and before too long
     ∷ why-refused [] [] 1 ∷ why-refused p9-longer [] 6
     ∷ why-refused p3 (0 ∷ 0 ∷ 0 ∷ []) 13 ∷ why-refused p9-longer (0 ∷ []) 6 ∷ why-refused p3 (replicate (4 * (maxLabels + 1) + 1) 0) 13
     ∷ []

@@ -46,11 +46,11 @@ longestNumber b q = hostNumber (searchRefusal b q) false false (longestLength b 
 
 -- Not in document 01: the numbers of the other operations, made in the same way, and what the lent memory holds afterwards.
 
--- Where a fault lies: its refusal, for refusal 11 the kind of fault, and the place.
+-- A refusal, a kind of fault or a reason, and a place.
 unfoldable pub placeNumber : ℕ → ℕ → ℕ → ℕ
 placeNumber k kind place = k * 2 ^ 40 + kind * 2 ^ 34 + place
 
--- an entry is given by its place in the children array
+-- Where a fault lies: its refusal, for refusal 11 the kind of fault, and the place. An entry is given by its place in the children array.
 unfoldable pub faultNumbered : Fault → ℕ
 faultNumbered Nowhere = 0
 faultNumbered (Label i) = placeNumber 9 0 i

@@ -14,9 +14,9 @@ use Rattle.lxtr_spec.specs.declared.Reason.{Reason}
 use Rattle.lxtr_spec.specs.declared.Reason.the-variants.{NoReason, IsFound, NotListed, NoStep, NoKeyEnds, TooLong}
 use Rattle.lxtr_spec.specs.declared.Why.{Why}
 
--- A tool takes an image and a query and gives one reason: found; ..
--- .. all labels walked but no key ends there; ..
--- (the walk ended at a slot with this value. It answers found exactly when exact match gives a value.)
+-- A tool takes an image and a query and gives one reason: found; .. all labels walked but no key ends there; ..
+-- It answers found exactly when exact match gives a value.
+-- (the walk ended at a slot with this value, or none)
 unfoldable pub endedWith : Option ℕ → Reason
 endedWith none = NoKeyEnds
 endedWith (some v) = IsFound
@@ -26,8 +26,8 @@ endedWith (some v) = IsFound
 unfoldable pub stoppedAt : List ℕ → ℕ → ℕ → Reason
 stoppedAt b i x = elim (codeOf b x) [ none ↦ NotListed i | some c ↦ NoStep i ]
 
--- The place, counted from 0, is the first at which the walk stops. (The walk goes on from slot n with the labels that are left; the
--- first of them has place i.)
+-- .. the place, counted from 0, is the first at which the walk stops ..
+-- (the walk goes on from slot n with the labels that are left, the first of which has place i)
 unfoldable pub reasonFrom : List ℕ → ℕ → ℕ → List ℕ → Reason
 reasonFrom b i n [] = endedWith (valueAt b n)
 reasonFrom b i n (x ∷ xs) = elim (stepBy b n x) [ none ↦ stoppedAt b i x | some t ↦ reasonFrom b (i + 1) t xs ]

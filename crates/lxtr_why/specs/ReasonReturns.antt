@@ -38,9 +38,9 @@ module _ (b : List ℕ) where
     unfolding endedWith
     ended-found v h = rw (found-is f v (valueAt b n) value h)
 
-    pub ended-open : f ≡ Nothing → NoKeyEnds ≡ endedWith (valueAt b n)
+    pub ended-without : f ≡ Nothing → NoKeyEnds ≡ endedWith (valueAt b n)
     unfolding endedWith
-    ended-open h = rw (found-none f (valueAt b n) value h)
+    ended-without h = rw (found-none f (valueAt b n) value h)
 
   -- m is how many labels there are
   module _ (xs : List ℕ) (m : ℕ) (count : m ≡ length xs) where

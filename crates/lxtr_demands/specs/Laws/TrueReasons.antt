@@ -22,7 +22,7 @@ use Rattle.lxtr_spec.specs.declared.Reason.{Reason}
 use Rattle.lxtr_spec.specs.declared.Reason.the-variants.{NoReason, IsFound, NotListed, NoStep, NoKeyEnds, TooLong}
 use Rattle.lxtr_laws.specs.RefusalChains.{stands}
 use Rattle.lxtr_laws.specs.StepFacts.{none-not-some, some-same, step-by-is, walk-empty, walk-append, walk-snoc}
-use Rattle.lxtr_laws.specs.Walking.{within, within-is}
+use Rattle.lxtr_laws.specs.Walking.{walk-front, walk-on, walk-stays, within, within-is}
 use Rattle.lxtr_laws.specs.WalkReasons.{reason-stops, reason-ends, reason-too-long, reason-within}
 use Rattle.lxtr_demands.specs.TrueReasons.{Walks, ListedAt, StopsAt, TrueReason, StopsIn, ReasonIn, WhyDemand}
 use Rattle.lxtr_demands.specs.Laws.Codes.{code-listed, code-missing}
@@ -32,22 +32,13 @@ use Rattle.lxtr_demands.specs.Laws.Images.{known-image}
 use Rattle.lxtr_demands.specs.Laws.Demand2.{exact-set}
 
 module _ (b xs : List ℕ) where
-  -- the first i labels reach slot n, and the next one has no step from there
+  -- the labels before a place reach a slot, and the label there has no step from it
   record Stop : Type 0 where
     place : ℕ
     slot : ℕ
     below : place < length xs
     reached : walk b 1 (take place xs) ≡ some slot
     stays : stepBy b slot (getD xs place 0) ≡ none
-
-  -- one label more
-  one-more : (k : ℕ) → k < length xs → take (k + 1) xs ≡ take k xs ++ getD xs k 0 ∷ []
-  one-more k h = ap (λ (n : ℕ). take n xs) (add-one k) ∙ take-suc xs k 0 h
-
-  step-on : (k n t : ℕ) → k < length xs → walk b 1 (take k xs) ≡ some n → stepBy b n (getD xs k 0) ≡ some t → walk b 1 (take (k + 1) xs) ≡ some t
-  step-on k n t h e f =
-      let s = step-by-is b n (getD xs k 0) t .0 f in
-      rw (one-more k h) (walk-snoc b (take k xs) (getD xs k 0) t .1 (record { slot = n; code = s .0; walked = e; coded = s .1; stepped = s .2 }))
 
   -- the first k labels walk, or the walk stops before
   goes : (k : ℕ) → k ≤ length xs → Stop ⊎ Walks b (take k xs)
@@ -56,27 +47,14 @@ module _ (b xs : List ℕ) where
     where
       go : (n : ℕ) → walk b 1 (take k xs) ≡ some n → (o : Option ℕ) → stepBy b n (getD xs k 0) ≡ o → Stop ⊎ Walks b (take (suc k) xs)
       go n e none f = inl (record { place = k; slot = n; below = h; reached = e; stays = f })
-      go n e (some t) f = inr (t, rw (← (add-one k)) (step-on k n t h e f))
-
-  -- a front part of labels that walk
-  front : (k m : ℕ) → k ≤ m → Walks b (take m xs) → Walks b (take k xs)
-  front k m h (t, e) =
-      let r = walk-append b 1 (take k (take m xs)) (drop k (take m xs)) t .0 (ap (walk b 1) (take-append-drop k (take m xs)) ∙ e) in
-      (r .0, ap (walk b 1) (sym (take-take k m xs h)) ∙ r .1)
-
-  -- a label that has no step from the slot reached stops the walk
-  no-step : (s : Stop) → Walks b (take (s .place + 1) xs) → ⊥
-  no-step s (t, e) =
-      let l = walk-snoc b (take (s .place) xs) (getD xs (s .place) 0) t .0 (rw (one-more (s .place) (s .below)) at e) in
-      let same : l .slot ≡ s .slot = some-same (sym (l .walked) ∙ s .reached) in
-      none-not-some (sym (s .stays) ∙ step-by-is b (s .slot) (getD xs (s .place) 0) t .1 (l .code, l .coded, rw same at (l .stepped)))
+      go n e (some t) f = inr (t, rw (← (add-one k)) (walk-on b xs k n h e t f))
 
   stops-at : length xs ≤ maxLabels → (s : Stop) → StopsAt b xs (s .place)
   stops-at few s = record {
     within = few;
     place = s .below;
-    walks = λ k h. front k (s .place) h (s .slot, s .reached);
-    stops = λ k h w. no-step s (front (s .place + 1) k (omega arith) w);
+    walks = λ k h. walk-front b xs k (s .place) (s .slot) h (s .reached);
+    stops = λ k h (t, e). walk-stays b xs (s .place) (s .slot) (s .below) (s .reached) (s .stays) k t h e;
   }
 
   -- and what stops it is such a label
@@ -88,7 +66,7 @@ module _ (b xs : List ℕ) where
         where
           by : (o : Option ℕ) → stepBy b n (getD xs i 0) ≡ o → (s : Stop) × (s .place ≡ i)
           by none f = (record { place = i; slot = n; below = s .place; reached = e; stays = f }, refl)
-          by (some t) f = absurd (s .stops (i + 1) (omega arith) (t, step-on i n t (s .place) e f))
+          by (some t) f = absurd (s .stops (i + 1) (omega arith) (t, walk-on b xs i n (s .place) e t f))
 
   -- the value that exact finds is that of the slot reached
   exact-at : length xs ≤ maxLabels → (n : ℕ) → walk b 1 xs ≡ some n → exactValue b xs ≡ valueAt b n
@@ -166,6 +144,9 @@ module _ {b : List ℕ} {d : PairSet} (image : ImageOf b d) (xs : List ℕ) wher
   walks-prefix : (p : List ℕ) → Walks b p ↔ Prefix d p
   walks-prefix p = (λ (n, e). walked known p n e .0, λ f. (image .slot p, walk-prefix image p f))
 
+  front : (k m : ℕ) → k ≤ m → Walks b (take m xs) → Walks b (take k xs)
+  front k m h (t, e) = walk-front b xs k m t h e
+
   stops-in : (i : ℕ) → StopsAt b xs i ↔ StopsIn d xs i
   stops-in i = (
     λ s. record {
@@ -177,11 +158,11 @@ module _ {b : List ℕ} {d : PairSet} (image : ImageOf b d) (xs : List ℕ) wher
     λ s. record {
       within = s .within;
       place = s .place;
-      walks = λ k h. front b xs k i h (walks-prefix (take i xs) .1 (s .begins));
+      walks = λ k h. front k i h (walks-prefix (take i xs) .1 (s .begins));
       stops = λ k h w. ⊎-elim
           (λ e. omega (arith, ap length e, length-take-le (i + 1) xs (omega (arith, s .place))))
           (λ (r, v, g). s .none-begins r v g)
-          (walks-prefix (take (i + 1) xs) .0 (front b xs (i + 1) k (omega arith) w) .is);
+          (walks-prefix (take (i + 1) xs) .0 (front (i + 1) k (omega arith) w) .is);
     },
   )
 
@@ -193,9 +174,9 @@ module _ {b : List ℕ} {d : PairSet} (image : ImageOf b d) (xs : List ℕ) wher
       go [] v h = absurd (none-not-some (sym e ∙ rw append-nil at h))
       go (x ∷ r) v h = inr (record { next = x; rest = r; value = v; is = h })
 
-  open-end : (xs ≡ []) ⊎ Longer d xs → (length xs ≤ maxLabels) × Prefix d xs
-  open-end (inl e) = (omega (arith, ap length e), record { is = inl e })
-  open-end (inr l) = (
+  proper-front : (xs ≡ []) ⊎ Longer d xs → (length xs ≤ maxLabels) × Prefix d xs
+  proper-front (inl e) = (omega (arith, ap length e), record { is = inl e })
+  proper-front (inr l) = (
     omega (arith, image .keys .key-length (xs ++ l .next ∷ l .rest) (l .value) (l .is), length-append xs (l .next ∷ l .rest)),
     record { is = inr (l .next ∷ l .rest, l .value, l .is) },
   )
@@ -207,7 +188,7 @@ module _ {b : List ℕ} {d : PairSet} (image : ImageOf b d) (xs : List ℕ) wher
   reason-in (NoStep i) = (λ (s, is). (stops-in i .0 s, is), λ (s, is). (stops-in i .1 s, is))
   reason-in NoKeyEnds = rw (exact-set known) (
     λ (few, w, e). (no-end e (walks-prefix xs .0 w), e),
-    λ (o, e). let r = open-end o in (r .0, walks-prefix xs .1 (r .1), e),
+    λ (o, e). let r = proper-front o in (r .0, walks-prefix xs .1 (r .1), e),
   )
   reason-in TooLong = Iff·rfl
 

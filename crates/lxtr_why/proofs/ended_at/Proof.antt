@@ -1,6 +1,6 @@
 -- With a value the query is found; without one no key ends at the slot.
 use borrow.Author.Needs.{needs}
-use Rattle.lxtr_why.specs.ReasonReturns.{ended-found, ended-open}
+use Rattle.lxtr_why.specs.ReasonReturns.{ended-found, ended-without}
 use Rattle.lxtr_why.proofs.ended_at.Statement.{statement}
 use Rattle.lxtr_why.proofs.ended_at.Tie as tie
 
@@ -12,4 +12,4 @@ ended-at-spec =
     (λ c. search needs)
     (λ c. search needs)
     (λ c. search ended-found)
-    (λ c. search ended-open))
+    (λ c. search ended-without))

@@ -53,7 +53,7 @@ fn every_short_text(comparison: &mut Comparison, image: &[u8]) {
     }
 }
 
-/// Texts of listed labels, in which none, one or two labels are not listed.
+/// Texts of A and N, with X at no, one or two places.
 fn around_the_limit(comparison: &mut Comparison, image: &[u8]) {
     for length in KEY_LABELS - 1..=KEY_LABELS + 2 {
         for front in [[A, A], [N, N], [N, A]] {
