@@ -14,7 +14,7 @@
 static const uint8_t keys[] = { 1, 0, 0, 0, 2, 1, 0, 0, 0, 'n', 2, 0, 0, 0, 'n', 0, 0, 0, 'a' };
 static const uint8_t text[] = { 0, 0, 0, 'n', 0, 0, 0, 'a', 0, 0, 0, 'n' };
 
-/* After n a label that the image does not list, and one label more than a key may have. */
+/* n and then a label that the image does not list; and a text of one label more than a key may have. */
 static const uint8_t text_x[] = { 0, 0, 0, 'n', 0, 0, 0, 'x' };
 static const uint8_t long_text[4 * (LXTR_MAX_LABELS + 1)];
 

@@ -40,10 +40,11 @@
  *
  * Take it apart with lxtr_refusal, lxtr_more, lxtr_has_value and lxtr_number below. A part that a function does not use is 0. If
  * the refusal is 0, nothing was refused. If not, it is a value of enum lxtr_reason, all other parts are 0, and lent memory is
- * unchanged (but lxtr_build clears its work: see there). If several reasons hold, the answer is the first of them, in the order
- * given at the function. lxtr_fault differs: along with a refusal it gives a kind and a number, and it answers 0 for an image that
- * lxtr_check refuses with 1 to 8. lxtr_why differs: if nothing is refused, it gives a value of enum lxtr_query_reason, and a place as the number.
- * lxtr_position_fresh, lxtr_position_push and lxtr_position_back answer a typing position instead, which is not taken apart.
+ * unchanged (but lxtr_build clears its work: see there). If several refusals hold, the answer is the first of them, in the order
+ * given at the function. Two functions have another part. lxtr_fault gives a kind and a number along with a refusal, and answers 0
+ * for an image that lxtr_check refuses with 1 to 8. lxtr_why, if nothing is refused, gives a value of enum lxtr_query_reason, and a
+ * place as the number. lxtr_position_fresh, lxtr_position_push and lxtr_position_back answer a typing position instead, which is
+ * not taken apart.
  *
  * LAYOUT OF AN IMAGE; only needed to understand a refusal
  *
@@ -237,8 +238,8 @@ uint64_t lxtr_probe(const uint8_t *image, size_t image_length, const uint8_t *qu
  * the first label at which the lookup stops, counted in labels from 0, so the label is at query + 4 * place. With the other reasons
  * the place is 0. After a refusal both are 0.
  *
- * The reason is LXTR_WHY_FOUND exactly when lxtr_exact answers a value. It is LXTR_WHY_TOO_LONG exactly for the queries of
- * more than LXTR_MAX_LABELS labels. In an image that lxtr_check does not refuse, the other reasons mean:
+ * The reason is LXTR_WHY_FOUND exactly when lxtr_exact answers a value. If nothing is refused, it is LXTR_WHY_TOO_LONG exactly when
+ * the query has more than LXTR_MAX_LABELS labels. In an image that lxtr_check does not refuse, the other reasons mean:
  * - LXTR_WHY_LABEL_NOT_LISTED, LXTR_WHY_NO_STEP: some key begins with the labels before the place, if there are any, but none with
  *   these and the label at the place. If this label is not listed, no key has it anywhere.
  * - LXTR_WHY_NO_KEY_ENDS: the query is empty, or longer keys begin with it, but it is not a key.

@@ -32,7 +32,7 @@ pub record StopsAt (b xs : List ℕ) (i : ℕ) : Type 0 where
   pub walks : (k : ℕ) → k ≤ i → Walks b (take k xs)
   pub stops : (k : ℕ) → i < k → Walks b (take k xs) → ⊥
 
--- What each reason says of the labels xs, over any bytes. A refused query alone has no reason.
+-- What each reason says of the labels xs, over any bytes. Only a refused query has no reason.
 abbrev pub TrueReason : List ℕ → List ℕ → Reason → Type 0
 TrueReason b xs NoReason = ⊥
 TrueReason b xs IsFound = (v : ℕ) × (exactValue b xs ≡ some v)

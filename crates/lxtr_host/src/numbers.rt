@@ -37,7 +37,7 @@ pub fn value_numbered(refusal: u8, more: bool, value: Found) -> u64
     }
 }
 
-// The number of a place, of a fault or in a query.
+// The number for a refusal, a kind of fault or a reason, and a place.
 fn place_number(refusal: u8, kind: u8, place: u32) -> u64
     ensures { λ r. ⌜ r ≡ placeNumber refusal kind place ⌝ }
 {

@@ -25,7 +25,7 @@ use Rattle.lxtr_laws.specs.StepFacts.{none-not-some, some-same, step-by-
 
 -- front parts of xs, over any bytes
 module _ (b xs : List ℕ) where
-  -- those of a front part that walks
+  -- a front part of one that walks walks too
   pub walk-front : (k m t : ℕ) → k ≤ m → walk b 1 (take m xs) ≡ some t → (s : ℕ) × (walk b 1 (take k xs) ≡ some s)
   walk-front k m t h e =
       let split : take m xs ≡ take k xs ++ drop k (take m xs) = sym (take-append-drop k (take m xs)) ∙ ap (λ (p : List ℕ). p ++ drop k (take m xs)) (take-take k m xs h) in

@@ -35,7 +35,9 @@ reasons =
     -- a listed label with no step
     ∷ why p3 (0x61 ∷ []) (NoStep 0) 0xC_0000_0000 ∷ why p3 (0x6E ∷ 0x6E ∷ []) (NoStep 1) 0xC_0000_0001
     ∷ why p3 (0x6E ∷ 0x61 ∷ 0x6E ∷ []) (NoStep 2) 0xC_0000_0002
-    -- both: the first one counts
+    -- listed, but in no key: 62 as a third label of P3
+    ∷ why (imageBytes nodes3 offsets3 children3 (labels3 ++ 0x62 ∷ [])) (0x62 ∷ []) (NoStep 0) 0xC_0000_0000
+    -- not listed and no step: the first one counts
     ∷ why p3 (0x61 ∷ 0x78 ∷ []) (NoStep 0) 0xC_0000_0000 ∷ why p3 (0x78 ∷ 0x61 ∷ []) (NotListed 0) 0x8_0000_0000
     ∷ why p3 (0x6E ∷ 0x6E ∷ 0x78 ∷ []) (NoStep 1) 0xC_0000_0001
     -- no key ends there: the empty text, where there are keys and where there are none; and in P2 the empty key
@@ -46,7 +48,7 @@ reasons =
     ∷ why p3 (replicate (maxLabels + 1) 0x78) TooLong 0x14_0000_0000 ∷ why p3 (replicate maxLabels 0x78) (NotListed 0) 0x8_0000_0000
     ∷ why cycle (replicate maxLabels 0x61) IsFound 0x4_0000_0000 ∷ why cycle (replicate (maxLabels + 1) 0x61) TooLong 0x14_0000_0000
     ∷ why cycle (replicate (maxLabels - 1) 0x61 ++ 0x78 ∷ []) (NotListed (maxLabels - 1)) (0x8_0000_0000 + (maxLabels - 1))
-    -- not accepted: P7, refused by 11; HAS_LEAF clear before a leaf, and set with no leaf behind it; a walk to a leaf; a walk to slot 0
+    -- not accepted: P7, refused by 11; HAS_LEAF clear before a leaf, and set with no leaf behind it; a walk to a leaf; a walk through slot 0
     ∷ why p7 (0x6E ∷ 0x61 ∷ []) IsFound 0x4_0000_0000 ∷ why p8-check (0x6E ∷ []) NoKeyEnds 0x10_0000_0000
     ∷ why p3-no-leaf (0x6E ∷ []) NoKeyEnds 0x10_0000_0000 ∷ why p3-no-end (0x6E ∷ []) NoKeyEnds 0x10_0000_0000
     ∷ why p3-leaf (0x6E ∷ 0x61 ∷ []) NoKeyEnds 0x10_0000_0000 ∷ why p3-leaf (0x6E ∷ 0x61 ∷ 0x6E ∷ []) (NoStep 2) 0xC_0000_0002
@@ -65,6 +67,7 @@ reasons-hold =
     and (refl, refl) and (refl, refl)
     and (refl, refl)
     and (refl, refl) and (refl, refl)
+    and (refl, refl)
     and (refl, refl)
     and (refl, refl) and (refl, refl)
     and (refl, refl)

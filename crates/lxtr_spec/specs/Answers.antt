@@ -1,4 +1,4 @@
--- What an answer of the code means if it holds an enum: document 01's values for each case.
+-- What an answer of the code means if it holds the enum Found: document 01's values for each case.
 use Prim.Native.Nat.{ℕ}
 use mathlib.Core.Option.{Option, some, none}
 use Rattle.lxtr_spec.specs.Searches.{ExactAnswer, ProbeAnswer}

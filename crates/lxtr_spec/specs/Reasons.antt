@@ -40,7 +40,8 @@ reasonOf b xs = cond (ltb maxLabels (length xs)) TooLong (reasonFrom b 0 1 xs)
 unfoldable pub whyOf : List ℕ → List ℕ → Why
 whyOf b q = let reason = reasonOf b (labelsOf q) in record { refusal = searchRefusal b q; reason = unlessRefused (searchRefusal b q) reason NoReason }
 
--- The number and the place of each reason: the reasons without a place give 0 too. (Document 02 has no numbers for them.)
+-- .. the reasons without a place give 0 too.
+-- (the number and the place of each reason; document 02 does not number the reasons)
 unfoldable pub reasonNumber : Reason → ℕ
 reasonNumber NoReason = 0
 reasonNumber IsFound = 1

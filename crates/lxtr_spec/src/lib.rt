@@ -101,6 +101,7 @@ pub enum Reason {
     TooLong,
 }
 
+// The reason, or NoReason after a refusal.
 pub struct Why {
     pub refusal: u8,
     pub reason: Reason,

@@ -8,8 +8,8 @@ use mathlib.Core.Path.{_≡_, refl, sym, ap, _∙_}
 use mathlib.Core.Logic.{_↔_, _⊎_, inl, inr, ⊎-elim, Iff·rfl}
 use mathlib.Core.List.{List, [], _∷_, _++_, append-nil}
 use mathlib.Core.Option.{Option, some, none}
-use lib.ListN.{length, take, drop, getD, take-append-drop, length-append}
-use lib.Seq.{take-length, take-take, take-suc, length-take-le}
+use lib.ListN.{length, take, getD, length-append}
+use lib.Seq.{take-length, length-take-le}
 use Rattle.lxtr_spec.specs.Labels.{maxLabels, labelsOf}
 use Rattle.lxtr_spec.specs.Image.{codeOf}
 use Rattle.lxtr_spec.specs.Refusals.{unlessRefused}
@@ -21,7 +21,7 @@ use Rattle.lxtr_spec.specs.Meaning.{Longer}
 use Rattle.lxtr_spec.specs.declared.Reason.{Reason}
 use Rattle.lxtr_spec.specs.declared.Reason.the-variants.{NoReason, IsFound, NotListed, NoStep, NoKeyEnds, TooLong}
 use Rattle.lxtr_laws.specs.RefusalChains.{stands}
-use Rattle.lxtr_laws.specs.StepFacts.{none-not-some, some-same, step-by-is, walk-empty, walk-append, walk-snoc}
+use Rattle.lxtr_laws.specs.StepFacts.{none-not-some, walk-empty}
 use Rattle.lxtr_laws.specs.Walking.{walk-front, walk-on, walk-stays, within, within-is}
 use Rattle.lxtr_laws.specs.WalkReasons.{reason-stops, reason-ends, reason-too-long, reason-within}
 use Rattle.lxtr_demands.specs.TrueReasons.{Walks, ListedAt, StopsAt, TrueReason, StopsIn, ReasonIn, WhyDemand}

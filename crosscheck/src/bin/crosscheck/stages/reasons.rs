@@ -1,6 +1,6 @@
 //! Why words are missing, request 5 of document 02: every short text over the
-//! examples of document 01, over images with cycles and over images with HAS_LEAF
-//! where no leaf is; texts around the limit of a key; and refusals.
+//! examples P1 to P3 and P7 to P10 of document 01, over images with cycles and over
+//! images with HAS_LEAF where no leaf is; texts around the limit of a key; and refusals.
 
 use super::examples::{built, changed, n_na};
 use super::position_examples::cycles;
