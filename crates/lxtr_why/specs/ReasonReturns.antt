@@ -49,9 +49,11 @@ module _ (b : List ℕ) where
 
     -- not too many, and the first i reach slot n
     module _ (i n : ℕ) (few : m ≤ maxLabels) (w : Walked b xs i n) where
-      pub walk-stops : (x : ℕ) (f : Found) (r : Reason) → i < m → x ≡ getD xs i 0 → found f ≡ stepBy b n x → f ≡ Nothing → r ≡ stoppedAt b i x → r ≡ reasonOf b xs
-      walk-stops x f r h label answer stop e =
-          rw label at e
+      -- j is the place that is told
+      pub walk-stops : (x j : ℕ) (f : Found) (r : Reason) → i < m → x ≡ getD xs i 0 → found f ≡ stepBy b n x → f ≡ Nothing → j ≡ i → r ≡ stoppedAt b j x
+          → r ≡ reasonOf b xs
+      walk-stops x j f r h label answer stop place e =
+          rw (label, place) at e
           ∙ sym (reason-within b xs (omega arith) ∙ reason-stops b xs i n (omega arith) (w .reached) (rw label at (found-none f (stepBy b n x) answer stop)))
 
       pub walk-ends : (r : Reason) → m ≤ i → r ≡ endedWith (valueAt b n) → r ≡ reasonOf b xs

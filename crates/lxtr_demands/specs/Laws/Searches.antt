@@ -39,12 +39,12 @@ module _ (b : List ℕ) where
   reached-limit k v none e h = absurd (none-not-some h)
   reached-limit k v (some t) e h = within-is b k t .0 e .0
 
-  exact-limit : (k : List ℕ) (v : ℕ) → Has (exactValue b) k v → length k ≤ maxLabels
+  pub exact-limit : (k : List ℕ) (v : ℕ) → Has (exactValue b) k v → length k ≤ maxLabels
   unfolding exactValue
   exact-limit k v h = reached-limit k v (walkWithin b k) refl h
 
   -- and within the limit it finds what the walk gives
-  exact-within : (k : List ℕ) → length k ≤ maxLabels → exactValue b k ≡ valueOf b k
+  pub exact-within : (k : List ℕ) → length k ≤ maxLabels → exactValue b k ≡ valueOf b k
   unfolding exactValue valueOf
   exact-within k h = rw (within b k h)
 

@@ -13,7 +13,7 @@ use lib.Seq.{take-length, length-take-le}
 use Rattle.lxtr_spec.specs.Labels.{maxLabels, labelsOf}
 use Rattle.lxtr_spec.specs.Image.{codeOf}
 use Rattle.lxtr_spec.specs.Refusals.{unlessRefused}
-use Rattle.lxtr_spec.specs.Walks.{stepBy, walk, walkWithin, valueAt, valueReached}
+use Rattle.lxtr_spec.specs.Walks.{stepBy, walk, valueAt, valueReached, valueOf}
 use Rattle.lxtr_spec.specs.Searches.{searchRefusal, exactValue, exactOf}
 use Rattle.lxtr_spec.specs.Reasons.{endedWith, stoppedAt, reasonOf, whyOf, reasonNumber}
 use Rattle.lxtr_spec.specs.Sets.{PairSet, Has, Prefix, ImageOf}
@@ -21,14 +21,15 @@ use Rattle.lxtr_spec.specs.Meaning.{Longer}
 use Rattle.lxtr_spec.specs.declared.Reason.{Reason}
 use Rattle.lxtr_spec.specs.declared.Reason.the-variants.{NoReason, IsFound, NotListed, NoStep, NoKeyEnds, TooLong}
 use Rattle.lxtr_laws.specs.RefusalChains.{stands}
-use Rattle.lxtr_laws.specs.StepFacts.{none-not-some, walk-empty}
-use Rattle.lxtr_laws.specs.Walking.{walk-front, walk-on, walk-stays, within, within-is}
+use Rattle.lxtr_laws.specs.StepFacts.{none-not-some, walk-empty, exact-is}
+use Rattle.lxtr_laws.specs.Walking.{walk-front, walk-on, walk-stays}
 use Rattle.lxtr_laws.specs.WalkReasons.{reason-stops, reason-ends, reason-too-long, reason-within}
 use Rattle.lxtr_demands.specs.TrueReasons.{Walks, ListedAt, StopsAt, TrueReason, StopsIn, ReasonIn, WhyDemand}
 use Rattle.lxtr_demands.specs.Laws.Codes.{code-listed, code-missing}
 use Rattle.lxtr_demands.specs.Laws.Kinds.{KnownImage}
 use Rattle.lxtr_demands.specs.Laws.Slots.{walk-prefix, walked}
 use Rattle.lxtr_demands.specs.Laws.Images.{known-image}
+use Rattle.lxtr_demands.specs.Laws.Searches.{exact-limit, exact-within}
 use Rattle.lxtr_demands.specs.Laws.Demand2.{exact-set}
 
 module _ (b xs : List ℕ) where
@@ -59,27 +60,22 @@ module _ (b xs : List ℕ) where
 
   -- and what stops it is such a label
   stop-at : (i : ℕ) → StopsAt b xs i → (s : Stop) × (s .place ≡ i)
-  stop-at i s = go (s .walks i (omega arith))
+  stop-at i s = let (n, e) = s .walks i (omega arith) in go n e (stepBy b n (getD xs i 0)) refl
     where
-      go : Walks b (take i xs) → (s : Stop) × (s .place ≡ i)
-      go (n, e) = by (stepBy b n (getD xs i 0)) refl
-        where
-          by : (o : Option ℕ) → stepBy b n (getD xs i 0) ≡ o → (s : Stop) × (s .place ≡ i)
-          by none f = (record { place = i; slot = n; below = s .place; reached = e; stays = f }, refl)
-          by (some t) f = absurd (s .stops (i + 1) (omega arith) (t, walk-on b xs i n (s .place) e t f))
+      go : (n : ℕ) → walk b 1 (take i xs) ≡ some n → (o : Option ℕ) → stepBy b n (getD xs i 0) ≡ o → (s : Stop) × (s .place ≡ i)
+      go n e none f = (record { place = i; slot = n; below = s .place; reached = e; stays = f }, refl)
+      go n e (some t) f = absurd (s .stops (i + 1) (omega arith) (t, walk-on b xs i n (s .place) e t f))
 
   -- the value that exact finds is that of the slot reached
   exact-at : length xs ≤ maxLabels → (n : ℕ) → walk b 1 xs ≡ some n → exactValue b xs ≡ valueAt b n
-  unfolding exactValue valueReached
-  exact-at few n e = rw (within b xs few, e)
+  unfolding valueOf valueReached
+  exact-at few n e = exact-within b xs few ∙ rw e
 
   exact-reached : (v : ℕ) → exactValue b xs ≡ some v → (length xs ≤ maxLabels) × Walks b xs
-  unfolding exactValue valueReached
-  exact-reached v e = go (walkWithin b xs) refl e
-    where
-      go : (o : Option ℕ) → walkWithin b xs ≡ o → valueReached b o ≡ some v → (length xs ≤ maxLabels) × Walks b xs
-      go none f g = absurd (none-not-some g)
-      go (some n) f g = let r = within-is b xs n .0 f in (r .0, (n, r .1))
+  exact-reached v e =
+      let few = exact-limit b xs v e in
+      let r = exact-is b xs v .0 (sym (exact-within b xs few) ∙ e) in
+      (few, (r .0, r .1))
 
   -- ---- the reason is true
 
