@@ -111,6 +111,8 @@ static void show_answers(const uint8_t *image, size_t length)
 	show("exact (empty)", lxtr_exact(image, length, NULL, 0));
 	show("probe n", lxtr_probe(image, length, text, N));
 	show("probe na", lxtr_probe(image, length, text, NA));
+	show("probe (empty)", lxtr_probe(image, length, NULL, 0));
+	show("probe nan", lxtr_probe(image, length, text, sizeof text));
 	show_reasons(image, length);
 	show_positions(image, length);
 	show("longest nan", lxtr_longest(image, length, text, sizeof text));

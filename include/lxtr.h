@@ -226,6 +226,12 @@ uint64_t lxtr_exact(const uint8_t *image, size_t image_length, const uint8_t *qu
 
 /*
  * Looks up a key as lxtr_exact does. "More" says whether longer keys begin with the query. Refusals: 1 to 8, then 13.
+ *
+ *     value   more   the query is
+ *     no      no     neither a key nor the beginning of one, or refused
+ *     no      yes    no key, but longer keys begin with it
+ *     yes     no     a key, and no longer key begins with it
+ *     yes     yes    a key, and longer keys begin with it
  */
 uint64_t lxtr_probe(const uint8_t *image, size_t image_length, const uint8_t *query, size_t query_length);
 

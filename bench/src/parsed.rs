@@ -1,7 +1,7 @@
 //! The independent implementation over an image that is already parsed: the
 //! functions of `crosscheck::answers` without their first step.
 
-use crosscheck::answers::{probe_number, romaji_number, value_number, why_number};
+use crosscheck::answers::{exact_number, probe_number, romaji_number, value_number, why_number};
 use crosscheck::check::accept;
 use crosscheck::common::{labels_in, Refusal};
 use crosscheck::image::Image;
@@ -31,11 +31,11 @@ impl Parsed {
     }
 
     pub fn exact(&self, query: &[u8]) -> u64 {
-        value_number(self.0.exact(RULES, &labels_in(query)))
+        exact_number(self.0.lookup(RULES, &labels_in(query)))
     }
 
     pub fn probe(&self, query: &[u8]) -> u64 {
-        probe_number(self.0.probe(RULES, &labels_in(query)))
+        probe_number(self.0.lookup(RULES, &labels_in(query)))
     }
 
     pub fn why(&self, query: &[u8]) -> u64 {
@@ -50,7 +50,7 @@ impl Parsed {
     }
 
     pub fn position_probe(&self, position: &Position) -> u64 {
-        position.probe_in(RULES, &self.0).map_or_else(refused, probe_number)
+        position.lookup_in(RULES, &self.0).map_or_else(refused, probe_number)
     }
 
     pub fn longest(&self, query: &[u8]) -> u64 {

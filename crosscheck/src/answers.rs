@@ -12,7 +12,7 @@ use crate::image::Image;
 use crate::position::{replay, Move, Opened, Position};
 use crate::romaji::{self, Press};
 use crate::rules::{Rules, Wrong};
-use crate::search::{self, Probe};
+use crate::search::{self, Case};
 use crate::why::{self, Reason, Why};
 use std::iter;
 
@@ -60,20 +60,25 @@ pub fn highest(rules: Rules, image: &[u8]) -> u64 {
 }
 
 pub fn exact(rules: Rules, image: &[u8], query: &[u8]) -> u64 {
-    number(search::exact(rules, image, query), value_number)
+    number(search::lookup(rules, image, query), exact_number)
 }
 
 pub fn probe(rules: Rules, image: &[u8], query: &[u8]) -> u64 {
-    number(search::probe(rules, image, query), probe_number)
+    number(search::lookup(rules, image, query), probe_number)
 }
 
-/// The number of what probe found.
-pub fn probe_number(probe: Probe) -> u64 {
-    flag(probe.longer_keys) + value_number(probe.value)
+/// The number that C's exact answers in a case of lookup.
+pub fn exact_number(case: Case) -> u64 {
+    value_number(case.value())
+}
+
+/// The number that C's probe answers in a case of lookup.
+pub fn probe_number(case: Case) -> u64 {
+    flag(case.longer_keys()) + exact_number(case)
 }
 
 pub fn position_probe(rules: Rules, image: &Opened, position: &Position) -> u64 {
-    number(position.probe(rules, image), probe_number)
+    number(position.lookup(rules, image), probe_number)
 }
 
 /// What a fresh position answers over the first image, and what the position answers after each

@@ -1,5 +1,5 @@
-//! P1 to P11 and the run examples of document 01, and the example of request 2 of
-//! document 02, as tests of this implementation.
+//! P1 to P11 and the run examples of document 01, and examples of requests 2 and 6
+//! of document 02, as tests of this implementation.
 
 use crate::answers::{self, PLACE_WORDS};
 use crate::builder::image_of;
@@ -10,6 +10,7 @@ use crate::keylist::to_bytes;
 use crate::listing;
 use crate::oracle;
 use crate::rules::Rules;
+use crate::search::{self, Case};
 
 const DOCUMENT: Rules = Rules::DOCUMENT;
 const VALUE: u64 = 1 << 32;
@@ -44,6 +45,10 @@ fn highest(image: &Image) -> u64 {
 fn fault(image: &Image) -> Option<(u8, u8, u32)> {
     let fault = fault::fault(DOCUMENT, &image.to_bytes());
     fault.map(|fault| (fault.refusal, fault.part, fault.place))
+}
+
+fn lookup(image: &Image, labels: &[u32]) -> Result<Case, Refusal> {
+    search::lookup(DOCUMENT, &image.to_bytes(), &query_of(labels))
 }
 
 fn exact(image: &Image, labels: &[u32]) -> u64 {
@@ -119,6 +124,33 @@ fn p6_probe() {
     assert_eq!(probe(&p3(), &[0x78]), 0);
 }
 
+/// Document 02, request 6: P4 and P6 are cases of one lookup.
+#[test]
+fn p4_and_p6_as_cases() {
+    let table: [(&[u32], Case); 5] = [
+        (&[0x6E], Case::ExactAndPrefix(0)),
+        (&[0x6E, 0x61], Case::Exact(1)),
+        (&[], Case::Prefix),
+        (&[0x61], Case::Nothing),
+        (&[0x78], Case::Nothing),
+    ];
+    let set = oracle::set_of(&p3()).expect("P3 has a set");
+    for (labels, case) in table {
+        assert_eq!(lookup(&p3(), labels), Ok(case), "{labels:?}");
+        assert_eq!(oracle::lookup(&set, labels), case, "{labels:?}");
+    }
+}
+
+#[test]
+fn lookup_refusals() {
+    let (image, query) = (p3().to_bytes(), query_of(&[0x6E, 0x61]));
+    let longer = [&image[..], &[0]].concat();
+    assert_eq!(search::lookup(DOCUMENT, &image, &query[..7]), Err(Refusal(13)));
+    assert_eq!(search::lookup(DOCUMENT, &longer, &query[..7]), Err(Refusal(6)));
+    assert_eq!(answers::exact(DOCUMENT, &image, &query[..7]), refused(13));
+    assert_eq!(answers::probe(DOCUMENT, &longer, &query[..7]), refused(6));
+}
+
 #[test]
 fn p7_child_twice() {
     let mut image = p3();
@@ -127,6 +159,7 @@ fn p7_child_twice() {
     assert_eq!(fault(&image), Some((11, 2, 2)));
     assert_eq!(answers::complete(DOCUMENT, &image.to_bytes(), &[], &mut [0; 100]), refused(11));
     assert_eq!(exact(&image, &[0x6E, 0x61]), VALUE + 1);
+    assert_eq!(lookup(&image, &[0x6E, 0x61]), Ok(Case::Exact(1)));
     assert_eq!(oracle::set_of(&image), None);
 }
 

@@ -1,7 +1,7 @@
 //! LXTR images as document 01 defines them, with requests 1 (romaji typing), 2
-//! (frequencies), 3 (typing positions) and 5 (why a word is missing) of document
-//! 02: a second implementation, which shares nothing with the proved one and is
-//! compared with it.
+//! (frequencies), 3 (typing positions), 5 (why a word is missing) and 6 (one
+//! lookup) of document 02: a second implementation, which shares nothing with the
+//! proved one and is compared with it.
 //!
 //! It parses an image into owned vectors and works on those. It often takes
 //! another way to an answer than the sentences of the documents: lists are rebuilt

@@ -1,10 +1,11 @@
 //! "When bytes are an image of a set of pairs", read as a definition: finds the
 //! set by walking the nodes, then compares the bytes with every sentence of that
-//! section. It shares nothing with refusals 9 to 12. Also says why a word is
-//! missing, by the set and the listed labels alone.
+//! section. It shares nothing with refusals 9 to 12. Also says what lookup finds,
+//! by the set alone, and why a word is missing, by the set and the listed labels.
 
 use crate::common::{is_scalar, KEY_LABELS};
 use crate::image::{Image, Node, TOP_BIT};
+use crate::search::Case;
 use crate::why::{Reason, Why};
 use std::collections::{BTreeMap, BTreeSet, HashMap};
 
@@ -26,6 +27,20 @@ pub fn set_of(image: &Image) -> Option<Vec<Pair>> {
     let pairs = candidate(image);
     let slots = slots_for(image, &pairs)?;
     (words_agree(image, &slots) && lists_agree(image, &slots)).then_some(pairs)
+}
+
+/// The case of a query, by the keys of a set that begin with it.
+pub fn lookup(set: &[Pair], labels: &[u32]) -> Case {
+    let (same, longer): (Vec<&Pair>, Vec<&Pair>) = set
+        .iter()
+        .filter(|pair| pair.labels.starts_with(labels))
+        .partition(|pair| pair.labels == labels);
+    match (same.first(), longer.is_empty()) {
+        (None, true) => Case::Nothing,
+        (None, false) => Case::Prefix,
+        (Some(key), true) => Case::Exact(key.value),
+        (Some(key), false) => Case::ExactAndPrefix(key.value),
+    }
 }
 
 /// Why a query is missing in a set, or found. The place is the length of the longest front part of the

@@ -5,7 +5,7 @@ use crate::check::accept;
 use crate::common::{Refusal, KEY_LABELS};
 use crate::image::Image;
 use crate::rules::{Rules, Wrong};
-use crate::search::Probe;
+use crate::search::Case;
 
 /// The most labels that a position counts.
 pub const TYPED_LABELS: usize = 255;
@@ -142,26 +142,26 @@ impl Position {
         image.trail(rules, &self.labels[..self.labels.len().min(KEY_LABELS)])
     }
 
-    /// What probe answers for the labels typed so far; nothing if the place is not below N.
-    pub fn probe(&self, rules: Rules, image: &Opened) -> Result<Probe, Refusal> {
-        image.as_ref().map_err(|refusal| *refusal).and_then(|image| self.probe_in(rules, image))
+    /// What lookup answers for the labels typed so far; nothing if the place is not below N.
+    pub fn lookup(&self, rules: Rules, image: &Opened) -> Result<Case, Refusal> {
+        image.as_ref().map_err(|refusal| *refusal).and_then(|image| self.lookup_in(rules, image))
     }
 
     /// The same without refusals 1 to 8.
-    pub fn probe_in(&self, rules: Rules, image: &Image) -> Result<Probe, Refusal> {
+    pub fn lookup_in(&self, rules: Rules, image: &Image) -> Result<Case, Refusal> {
         if rules.breaks(Wrong::PositionTests9To12) {
             accept(rules, image)?;
         }
         let overlooked = rules.breaks(Wrong::Slot0IsNoPlace) && self.trail.contains(&0)
             || rules.breaks(Wrong::PositionBelowLimit) && self.labels.len() >= KEY_LABELS;
         if overlooked || !self.is_in(rules, image) {
-            return Ok(Probe::default());
+            return Ok(Case::Nothing);
         }
         let walked = self.labels.len().min(self.trail.len() - 1);
         let walked = rules.either(self.labels.len(), Wrong::GoodPlaceAnswered, walked);
-        let past = Rules::breaking(Wrong::ProbePastTheLimit);
+        let past = Rules::breaking(Wrong::LookupPastTheLimit);
         let rules = rules.either(rules, Wrong::PositionPastTheLimit, past);
-        Ok(image.probe(rules, &self.labels[..walked]))
+        Ok(image.lookup(rules, &self.labels[..walked]))
     }
 }
 

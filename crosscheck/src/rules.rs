@@ -1,6 +1,6 @@
 //! The rules of document 01, with requests 1 (romaji typing), 2 (frequencies), 3
-//! (typing positions) and 5 (why a word is missing) of document 02, and wrong
-//! variants that break one rule each.
+//! (typing positions), 5 (why a word is missing) and 6 (one lookup) of document 02,
+//! and wrong variants that break one rule each.
 //!
 //! A comparison that cannot tell a wrong variant from the documents is too weak.
 //! Each variant is tested at the one place where its rule is written, with the
@@ -103,7 +103,6 @@ wrong_variants! {
     UnlistedIsCode0: "an unlisted label has code 0",
     ValueWithoutHasLeaf: "a value is found without HAS_LEAF",
     EndNeedNotBeLeaf: "a value is read from a slot that is no leaf",
-    ExactPastTheLimit: "exact goes past the limit of a key",
     EmptyKeyNoPrefix: "the empty key is no prefix",
     PrefixesStopOneEarly: "prefixes stop one label before the limit of a key",
     PrefixesPastTheLimit: "prefixes go past the limit of a key",
@@ -111,7 +110,10 @@ wrong_variants! {
     PlacesClearedByRefusal: "refused prefixes clear the places",
     FewPlacesStay: "places too few for all lengths are left as they were",
     LongestIsTheWalk: "longest answers how far the walk went",
-    ProbePastTheLimit: "probe goes past the limit of a key",
+    LookupPastTheLimit: "lookup goes past the limit of a key",
+    ExactWithoutValue: "a key is found with value 0 in place of its own",
+    LastCasesExchanged: "the last two cases of lookup are exchanged",
+    KeyIsOnlyPrefix: "a key with longer keys is only a prefix",
     EndCountsAsLonger: "longer keys exist wherever a list is not empty",
     FallingPairWraps: "a falling offset pair has a wrapped width",
     // Why a word is missing.

@@ -1,4 +1,5 @@
-//! Exact, prefixes, longest and probe, over the trail of slots that a query walks.
+//! Lookup (request 6 of document 02), prefixes and longest, over the trail of slots
+//! that a query walks.
 
 use crate::common::{labels_in, refuse_if, Refusal, KEY_LABELS};
 use crate::image::Image;
@@ -7,11 +8,28 @@ use crate::rules::{Rules, Wrong};
 /// A key found at the front of a query: its length in labels and its value number.
 pub type Match = (usize, u32);
 
-/// What probe answers for a query.
+/// What lookup answers for a query; the last two cases have its value number.
 #[derive(Clone, Copy, Debug, Default, PartialEq, Eq)]
-pub struct Probe {
-    pub value: Option<u32>,
-    pub longer_keys: bool,
+pub enum Case {
+    #[default]
+    Nothing,
+    Prefix,
+    Exact(u32),
+    ExactAndPrefix(u32),
+}
+
+impl Case {
+    pub fn value(self) -> Option<u32> {
+        match self {
+            Case::Nothing | Case::Prefix => None,
+            Case::Exact(value) | Case::ExactAndPrefix(value) => Some(value),
+        }
+    }
+
+    /// Whether longer keys exist.
+    pub fn longer_keys(self) -> bool {
+        matches!(self, Case::Prefix | Case::ExactAndPrefix(_))
+    }
 }
 
 /// Refusals 1 to 8, then 13: an image to walk and the query's labels.
@@ -23,9 +41,9 @@ pub fn open(rules: Rules, image: &[u8], query: &[u8]) -> Result<(Image, Vec<u32>
     Ok((image, labels_in(query)))
 }
 
-pub fn exact(rules: Rules, image: &[u8], query: &[u8]) -> Result<Option<u32>, Refusal> {
+pub fn lookup(rules: Rules, image: &[u8], query: &[u8]) -> Result<Case, Refusal> {
     let (image, labels) = open(rules, image, query)?;
-    Ok(image.exact(rules, &labels))
+    Ok(image.lookup(rules, &labels))
 }
 
 pub fn prefixes(rules: Rules, image: &[u8], query: &[u8]) -> Result<Vec<Match>, Refusal> {
@@ -37,11 +55,6 @@ pub fn prefixes(rules: Rules, image: &[u8], query: &[u8]) -> Result<Vec<Match>, 
 pub fn longest<'a>(rules: Rules, image: &[u8], query: &'a [u8]) -> Result<&'a [u8], Refusal> {
     let (image, labels) = open(rules, image, query)?;
     Ok(&query[..4 * image.longest(rules, &labels)])
-}
-
-pub fn probe(rules: Rules, image: &[u8], query: &[u8]) -> Result<Probe, Refusal> {
-    let (image, labels) = open(rules, image, query)?;
-    Ok(image.probe(rules, &labels))
 }
 
 impl Image {
@@ -83,11 +96,38 @@ impl Image {
         self.trail(rules, labels).get(labels.len()).copied()
     }
 
-    pub fn exact(&self, rules: Rules, labels: &[u32]) -> Option<u32> {
-        if labels.len() > KEY_LABELS && rules.keeps(Wrong::ExactPastTheLimit) {
-            return None;
+    pub fn lookup(&self, rules: Rules, labels: &[u32]) -> Case {
+        if labels.len() > KEY_LABELS && rules.keeps(Wrong::LookupPastTheLimit) {
+            return Case::Nothing;
         }
-        self.value_at(rules, self.slot_of(rules, labels)?)
+        self.slot_of(rules, labels).map(|slot| self.case_at(rules, slot)).unwrap_or_default()
+    }
+
+    /// The case of a query whose walk ends at this slot.
+    fn case_at(&self, rules: Rules, slot: u32) -> Case {
+        let longer_keys = self.longer_keys(rules, slot);
+        let Some(value) = self.value_at(rules, slot) else {
+            return if longer_keys { Case::Prefix } else { Case::Nothing };
+        };
+        let value = rules.either(value, Wrong::ExactWithoutValue, 0);
+        let (alone, both) = (Case::Exact(value), Case::ExactAndPrefix(value));
+        let (alone, both) = rules.either((alone, both), Wrong::LastCasesExchanged, (both, alone));
+        let both = rules.either(both, Wrong::KeyIsOnlyPrefix, Case::Prefix);
+        if longer_keys {
+            both
+        } else {
+            alone
+        }
+    }
+
+    /// Whether the children list is wider than the end that HAS_LEAF announces.
+    fn longer_keys(&self, rules: Rules, slot: u32) -> bool {
+        let pair = &self.lists.offsets[slot as usize..];
+        let (from, to) = (pair[0], pair[1]);
+        let width =
+            rules.either(to.saturating_sub(from), Wrong::FallingPairWraps, to.wrapping_sub(from));
+        let flagged = self.node(slot).has_leaf() && rules.keeps(Wrong::EndCountsAsLonger);
+        width > u32::from(flagged)
     }
 
     pub fn prefixes(&self, rules: Rules, labels: &[u32]) -> Vec<Match> {
@@ -107,26 +147,5 @@ impl Image {
             return self.trail(rules, labels).len() - 1;
         }
         self.prefixes(rules, labels).last().map_or(0, |found| found.0)
-    }
-
-    pub fn probe(&self, rules: Rules, labels: &[u32]) -> Probe {
-        let too_long = labels.len() > KEY_LABELS && rules.keeps(Wrong::ProbePastTheLimit);
-        match self.slot_of(rules, labels) {
-            Some(slot) if !too_long => Probe {
-                value: self.value_at(rules, slot),
-                longer_keys: self.longer_keys(rules, slot),
-            },
-            _ => Probe::default(),
-        }
-    }
-
-    /// Whether the children list is wider than the end that HAS_LEAF announces.
-    fn longer_keys(&self, rules: Rules, slot: u32) -> bool {
-        let pair = &self.lists.offsets[slot as usize..];
-        let (from, to) = (pair[0], pair[1]);
-        let width =
-            rules.either(to.saturating_sub(from), Wrong::FallingPairWraps, to.wrapping_sub(from));
-        let flagged = self.node(slot).has_leaf() && rules.keeps(Wrong::EndCountsAsLonger);
-        width > u32::from(flagged)
     }
 }

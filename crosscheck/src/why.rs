@@ -79,7 +79,7 @@ impl Image {
 
     fn finds(&self, rules: Rules, labels: &[u32]) -> bool {
         let flagged = |slot: u32| self.node(slot).has_leaf();
-        self.exact(rules, labels).is_some()
+        self.lookup(rules, labels).value().is_some()
             || rules.breaks(Wrong::HasLeafIsFound)
                 && self.slot_of(rules, labels).is_some_and(flagged)
     }

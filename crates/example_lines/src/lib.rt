@@ -20,13 +20,11 @@ pub const HEADER: u64 = 0x686561646572;
 
 pub const CHECK: u64 = 0x636865636B;
 
-pub const EXACT: u64 = 0x6578616374;
+pub const LOOKUP: u64 = 0x6C6F6F6B7570;
 
 pub const PREFIXES: u64 = 0x7072656669786573;
 
 pub const LONGEST: u64 = 0x6C6F6E67657374;
-
-pub const PROBE: u64 = 0x70726F6265;
 
 pub const COMPLETE: u64 = 0x636F6D706C657465;
 

@@ -1,32 +1,45 @@
 -- The number that a C function returns is the number of the operation's answer.
 use Prim.Native.Nat.{ℕ, _*_, _/_, _^_, _<_}
 use native.Mathlib.Omega.{arith}
-use mathlib.Core.Path.{_≡_, ap, _∙_}
+use mathlib.Core.Path.{_≡_, refl, sym, ap, _∙_}
+use mathlib.Core.Logic.{_≢_}
+use mathlib.Core.Option.{some}
 use mathlib.Core.List.{List}
-use mathlib.Core.Bool.{false}
+use mathlib.Core.Bool.{Bool, false}
 use lib.ListN.{length}
 use lib.Seq.{length-take-le}
+use Rattle.lxtr_spec.specs.Labels.{labelsOf}
 use Rattle.lxtr_spec.specs.Refusals.{unlessRefused, checkOf}
 use Rattle.lxtr_spec.specs.FaultPlaces.{faultOf}
 use Rattle.lxtr_spec.specs.HighestValues.{highestOf}
-use Rattle.lxtr_spec.specs.Searches.{exactOf, prefixesOf, LongestAnswer, longestLength, longestOf, probeOf}
+use Rattle.lxtr_spec.specs.Walks.{walkWithin, valueAt, valueReached}
+use Rattle.lxtr_spec.specs.Searches.{searchRefusal, caseValue, caseLonger, caseAt, lookupOf, prefixesOf, LongestAnswer, longestLength, longestOf}
 use Rattle.lxtr_spec.specs.Reasons.{whyOf}
 use Rattle.lxtr_spec.specs.Completions.{CompletionAnswer, completionOf}
 use Rattle.lxtr_spec.specs.Builds.{BuildAnswer, buildOf}
-use Rattle.lxtr_spec.specs.Answers.{found, exactMeans, probeMeans, highestMeans}
-use Rattle.lxtr_spec.specs.HostNumbers.{hostNumber, valueNumbered, faultNumbered, checkNumber, faultNumber, highestNumber, exactNumber, probeNumber, longestNumber, reasonNumbered, whyNumber, HostPrefixes, alternately, atFront, prefixesNumber, placesAfter, hostPrefixesOf, HostCompletion, completionNumber, hostCompletionOf, HostBuild, builtNumber, hostBuildOf}
+use Rattle.lxtr_spec.specs.Answers.{found, highestMeans}
+use Rattle.lxtr_spec.specs.HostNumbers.{hostNumber, valueNumbered, faultNumbered, checkNumber, faultNumber, highestNumber, exactNumbered, probeNumbered, exactNumber, probeNumber, longestNumber, reasonNumbered, whyNumber, HostPrefixes, alternately, atFront, prefixesNumber, placesAfter, hostPrefixesOf, HostCompletion, completionNumber, hostCompletionOf, HostBuild, builtNumber, hostBuildOf}
 use Rattle.lxtr_laws.specs.Limit.{length-fits-byte}
 use Rattle.lxtr_laws.specs.RefusalChains.{stands}
+use Rattle.lxtr_laws.specs.Cases.{value-there}
+use Rattle.lxtr_laws.specs.SearchReturns.{lookup-refused, lookup-nowhere, lookup-reached}
 use Rattle.lxtr_search.specs.Kept.{longest-bytes, longest-limit}
 use Rattle.lxtr_spec.specs.declared.Verdict.{Verdict}
 use Rattle.lxtr_spec.specs.declared.Fault.{Fault}
+use Rattle.lxtr_spec.specs.declared.Found.{Found}
+use Rattle.lxtr_spec.specs.declared.Found.the-variants.{Is, Nothing}
 use Rattle.lxtr_spec.specs.declared.Highest.{Highest}
-use Rattle.lxtr_spec.specs.declared.Exact.{Exact}
+use Rattle.lxtr_spec.specs.declared.Case.the-variants.{Neither}
+use Rattle.lxtr_spec.specs.declared.Lookup.{Lookup}
 use Rattle.lxtr_spec.specs.declared.Prefixes.{Prefixes}
-use Rattle.lxtr_spec.specs.declared.Probe.{Probe}
 use Rattle.lxtr_spec.specs.declared.Why.{Why}
 use Rattle.lxtr_spec.specs.declared.Completion.{Completion}
 use Rattle.lxtr_spec.specs.declared.Built.{Built}
+
+-- the number that probe answers; f is the value of the case, and l whether longer keys exist
+pub probe-numbered : (a : Lookup) (f : Found) (l : Bool) (n : ℕ) → found f ≡ caseValue (a .case) → l ≡ caseLonger (a .case) → n ≡ valueNumbered (a .refusal) l (found f) → n ≡ probeNumbered a
+unfolding probeNumbered
+probe-numbered a f l n value longer h = rw (← value, ← longer) h
 
 module _ (b : List ℕ) where
   pub fault-number : (f : Fault) (n : ℕ) → f ≡ faultOf b → n ≡ faultNumbered f → n ≡ faultNumber b
@@ -42,11 +55,23 @@ module _ (b : List ℕ) where
   highest-number a n e h = rw (← e) h
 
   module _ (q : List ℕ) where
-    pub exact-number : (a : Exact) (n : ℕ) → exactMeans a ≡ exactOf b q → n ≡ valueNumbered (a .refusal) false (found (a .value)) → n ≡ exactNumber b q
-    unfolding exactNumber
-    exact-number a n e h = rw (← e) h
+    -- exact, by the walk of a lookup and the value at its end; r is the refusal, f the slot that the walk reached
+    module _ (r n : ℕ) (known : r ≡ searchRefusal b q) where
+      pub exact-refused : r ≢ 0 → n ≡ hostNumber r false false 0 → n ≡ exactNumber b q
+      unfolding exactNumber exactNumbered caseValue valueNumbered
+      exact-refused h e = e ∙ ap exactNumbered (lookup-refused b q r known h (record { refusal = r; case = Neither }) refl)
 
-    pub probe-number : (a : Probe) (n : ℕ) → probeMeans a ≡ probeOf b q → n ≡ valueNumbered (a .refusal) (a .longer) (found (a .value)) → n ≡ probeNumber b q
+      module _ (z : r ≡ 0) (f : Found) (walked : found f ≡ walkWithin b (labelsOf q)) where
+        pub exact-nowhere : f ≡ Nothing → n ≡ hostNumber 0 false false 0 → n ≡ exactNumber b q
+        unfolding exactNumber exactNumbered caseValue valueNumbered
+        exact-nowhere h e = e ∙ ap exactNumbered (lookup-nowhere b q r known z f walked (record { refusal = 0; case = Neither }) h refl)
+
+        pub exact-reached : (m : ℕ) (v : Found) → f ≡ Is m → found v ≡ valueAt b m → n ≡ valueNumbered 0 false (found v) → n ≡ exactNumber b q
+        unfolding exactNumber exactNumbered valueReached
+        exact-reached m v h value e =
+            e ∙ ap (valueNumbered 0 false) (value ∙ sym (value-there b (some m))) ∙ ap exactNumbered (lookup-reached b q r known z f walked (caseAt b (some m)) m h refl)
+
+    pub probe-number : (a : Lookup) (n : ℕ) → a ≡ lookupOf b q → n ≡ probeNumbered a → n ≡ probeNumber b q
     unfolding probeNumber
     probe-number a n e h = rw (← e) h
 

@@ -2,10 +2,9 @@
 use Prim.Native.Nat.{ℕ}
 use mathlib.Core.Path.{_≡_, ap, _∙_}
 use mathlib.Core.List.{List}
-use Rattle.lxtr_spec.specs.Positions.{freshPosition, pushOf, backOf, positionProbeOf}
-use Rattle.lxtr_spec.specs.Answers.{found, probeMeans}
-use Rattle.lxtr_spec.specs.HostNumbers.{valueNumbered, positionNumber, positionOf, hostFresh, hostPushOf, hostBackOf, positionProbeNumber}
-use Rattle.lxtr_spec.specs.declared.Probe.{Probe}
+use Rattle.lxtr_spec.specs.Positions.{freshPosition, pushOf, backOf, positionLookupOf}
+use Rattle.lxtr_spec.specs.HostNumbers.{probeNumbered, positionNumber, positionOf, hostFresh, hostPushOf, hostBackOf, positionProbeNumber}
+use Rattle.lxtr_spec.specs.declared.Lookup.{Lookup}
 use Rattle.lxtr_position.specs.Means.{positionMeans, movedMeans}
 use Rattle.lxtr_position.specs.declared.Position.{Position}
 use Rattle.lxtr_position.specs.declared.Moved.{Moved}
@@ -26,6 +25,6 @@ module _ (b : List ℕ) (n : ℕ) (p : Position) (read : positionMeans p ≡ pos
     unfolding hostBackOf
     back-number e = rw (← read, ← e) number
 
-  pub position-probe-number : (a : Probe) (k : ℕ) → probeMeans a ≡ positionProbeOf b (positionMeans p) → k ≡ valueNumbered (a .refusal) (a .longer) (found (a .value)) → k ≡ positionProbeNumber b n
+  pub position-probe-number : (a : Lookup) (k : ℕ) → a ≡ positionLookupOf b (positionMeans p) → k ≡ probeNumbered a → k ≡ positionProbeNumber b n
   unfolding positionProbeNumber
   position-probe-number a k e h = rw (← read, ← e) h

@@ -4,7 +4,7 @@ ghost use mathlib.Core.Path.{_≡_};
 ghost use mathlib.Core.Bool.{false};
 ghost use Prim.Native.Nat.{_%_, _^_};
 ghost use Rattle.lxtr_spec.specs.Refusals.{unlessRefused};
-ghost use Rattle.lxtr_spec.specs.HostNumbers.{hostNumber, atFront, checkNumber, faultNumber, highestNumber, exactNumber, probeNumber, longestNumber, whyNumber, hostPrefixesOf, hostFresh, hostPushOf, hostBackOf, positionProbeNumber, hostCompletionOf, hostBuildOf};
+ghost use Rattle.lxtr_spec.specs.HostNumbers.{hostNumber, atFront, checkNumber, faultNumber, highestNumber, probeNumbered, exactNumber, probeNumber, longestNumber, whyNumber, hostPrefixesOf, hostFresh, hostPushOf, hostBackOf, positionProbeNumber, hostCompletionOf, hostBuildOf};
 ghost use Rattle.romaji_spec.specs.HostStates.{stateBytes, hostTypeOf, hostFinishOf};
 use lxtr_build::build;
 use lxtr_check::check;
@@ -19,11 +19,17 @@ use lxtr_host::places::put_places;
 use lxtr_position::Position;
 use lxtr_position::numbers::position_number;
 use lxtr_position::numbers::position_of;
-use lxtr_search::exact;
+use lxtr_search::cases::found_value;
+use lxtr_search::cases::has_longer;
 use lxtr_search::longest;
+use lxtr_search::lookup;
 use lxtr_search::matches::put_prefixes;
-use lxtr_search::probe;
+use lxtr_spec::Found;
 use lxtr_spec::LENGTH_COUNT;
+use lxtr_spec::Lookup;
+use lxtr_walk::search_refusal;
+use lxtr_walk::value_at;
+use lxtr_walk::walk_within;
 use lxtr_why::why;
 use romaji::finish;
 use romaji::states::put_state;
@@ -58,24 +64,34 @@ pub extern "C" fn lxtr_highest(image: &[u8]) -> u64
     value_numbered(answer.refusal, false, value)
 }
 
-// Exact: the value, if there is one.
+// Exact: the value of a lookup, if there is one. It does not call the lookup, which also reads the children list of the slot.
 #[no_mangle]
 pub extern "C" fn lxtr_exact(image: &[u8], query: &[u8]) -> u64
     ensures { λ r. ⌜ r ≡ exactNumber (now (image .entry)) (now (query .entry)) ⌝ }
 {
-    let answer = exact(image, query);
-    let value = answer.value;
-    value_numbered(answer.refusal, false, value)
+    let number = search_refusal(image, query);
+    if number != 0 {
+        return host_number(number, false, false, 0);
+    }
+    let Found::Is(n) = walk_within(image, query) else {
+        return host_number(0, false, false, 0);
+    };
+    value_numbered(0, false, value_at(image, n))
 }
 
-// Probe: the value, if there is one, and whether longer keys exist.
+// The number that probe answers for a lookup.
+fn probe_numbered(answer: Lookup) -> u64
+    ensures { λ r. ⌜ r ≡ probeNumbered answer ⌝ }
+{
+    value_numbered(answer.refusal, has_longer(answer), found_value(answer))
+}
+
+// Probe: the value of a lookup, if there is one, and whether longer keys exist.
 #[no_mangle]
 pub extern "C" fn lxtr_probe(image: &[u8], query: &[u8]) -> u64
     ensures { λ r. ⌜ r ≡ probeNumber (now (image .entry)) (now (query .entry)) ⌝ }
 {
-    let answer = probe(image, query);
-    let value = answer.value;
-    value_numbered(answer.refusal, answer.longer, value)
+    probe_numbered(lookup(image, query))
 }
 
 // Longest: the length of the matched front part, in labels.
@@ -146,9 +162,7 @@ pub extern "C" fn lxtr_position_back(image: &[u8], position: u64) -> u64
 pub extern "C" fn lxtr_position_probe(image: &[u8], position: u64) -> u64
     ensures { λ r. ⌜ r ≡ positionProbeNumber (now (image .entry)) position ⌝ }
 {
-    let answer = position_of(position).probe(image);
-    let value = answer.value;
-    value_numbered(answer.refusal, answer.longer, value)
+    probe_numbered(position_of(position).lookup(image))
 }
 
 // Completions: how many records are in the room, and whether the listing stopped for lack of room.

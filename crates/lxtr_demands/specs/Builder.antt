@@ -12,6 +12,7 @@ use Rattle.lxtr_spec.specs.Numbers.{beWords}
 use Rattle.lxtr_spec.specs.Labels.{lengthCount, maxListed, labelsOf, Pair}
 use Rattle.lxtr_spec.specs.Joining.{slotUnder}
 use Rattle.lxtr_spec.specs.Completions.{listingOf, roomFor}
+use Rattle.lxtr_spec.specs.Searches.{caseValue}
 use Rattle.lxtr_spec.specs.KeyLists.{keyCount, pairsOf, listRefusal}
 use Rattle.lxtr_spec.specs.CodeMaps.{frequency, mapOf, codeIn, labelWith}
 use Rattle.lxtr_spec.specs.Placing.{checkAt, baseCount, childCodes, below, endValue, putChildren, putParent}
@@ -19,6 +20,7 @@ use Rattle.lxtr_spec.specs.Builds.{imageIn, slotsIn, workAfter}
 use Rattle.lxtr_spec.specs.Sets.{PairSet, Has, ImageOf}
 use Rattle.lxtr_spec.specs.Meaning.{Ordered, Lists}
 use Rattle.lxtr_demands.specs.Operations.{Operations}
+use Rattle.lxtr_demands.specs.Demand2.{GivesValue}
 
 -- the set has these pairs, and no others
 pub record HasExactly (d : PairSet) (ps : List Pair) : Type 0 where
@@ -33,10 +35,10 @@ pub record ReadsBack (o : Operations) (keys image : List ℕ) : Type 0 where
   pub image-of : ImageOf image pair-set
   -- So the check accepts it with that count,
   pub checked : o .check image ≡ record { refusal = 0; pairs = keyCount keys }
-  -- exact finds each key's number
-  pub exact : (k : List ℕ) (v : ℕ) → List·Memᴰ (k, v) (pairsOf keys) → o .exact image (beWords k) ≡ record { refusal = 0; value = some v }
+  -- lookup finds each key's number
+  pub lookup : (k : List ℕ) (v : ℕ) → List·Memᴰ (k, v) (pairsOf keys) → GivesValue o image (beWords k) (some v)
   -- and nothing else,
-  pub exact-only : (q : List ℕ) (v : ℕ) → o .exact image q .value ≡ some v → List·Memᴰ (labelsOf q, v) (pairsOf keys)
+  pub lookup-only : (q : List ℕ) (v : ℕ) → caseValue (o .lookup image q .case) ≡ some v → List·Memᴰ (labelsOf q, v) (pairsOf keys)
   -- and completing the empty prefix with room enough lists the keys, in code order.
   pub listing : (ps : List Pair) × Lists image pair-set [] ps
   pub completion : (ps : List Pair) (room : List ℕ) → Lists image pair-set [] ps → roomFor ps ≤ length room

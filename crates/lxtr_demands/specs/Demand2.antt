@@ -3,24 +3,29 @@
 -- Laws/Searches.antt.
 use Prim.Native.Nat.{ℕ, _*_, _%_, _≤_}
 use mathlib.Core.Path.{_≡_}
-use mathlib.Core.Logic.{_↔_}
 use mathlib.Core.List.{List, _++_}
-use mathlib.Core.Bool.{true}
+use mathlib.Core.Option.{Option}
 use lib.ListN.{length, take, drop}
 use lib.Dec.{ltb}
 use Rattle.lxtr_spec.specs.Labels.{labelsOf, Pair}
-use Rattle.lxtr_spec.specs.Searches.{searchRefusal, exactValue, prefixesAnswer}
+use Rattle.lxtr_spec.specs.Searches.{searchRefusal, caseValue, valueFor, prefixesAnswer}
 use Rattle.lxtr_spec.specs.Completions.{listingOf, roomFor}
 use Rattle.lxtr_spec.specs.Sets.{PairSet, ImageOf}
-use Rattle.lxtr_spec.specs.Meaning.{PrefixesIn, LongestIn, Longer, Lists, FittingFront}
+use Rattle.lxtr_spec.specs.Meaning.{CaseIn, PrefixesIn, LongestIn, Lists, FittingFront}
+use Rattle.lxtr_spec.specs.declared.Case.{Case}
 use Rattle.lxtr_demands.specs.Operations.{Operations, defined}
 
--- what the program o answers for the query q, whose labels are xs, in terms of the set d: exact, prefixes, longest, probe's value
+-- the lookup of the query q is not refused, and gives this value or none
+pub record GivesValue (o : Operations) (b q : List ℕ) (v : Option ℕ) : Type 0 where
+  pub refusal : o .lookup b q .refusal ≡ 0
+  pub value : caseValue (o .lookup b q .case) ≡ v
+
+-- what the program o answers for the query q, whose labels are xs, in terms of the set d: lookup's value, prefixes, longest
 pub record Searched (o : Operations) (b : List ℕ) (d : PairSet) (q xs : List ℕ) : Type 0 where
-  -- Exact: the value number or none.
-  pub exact : o .exact b q ≡ record { refusal = 0; value = d xs }
+  -- Lookup: the value number or none.
+  pub lookup-value : GivesValue o b q (d xs)
   -- The same for each front part of the query.
-  pub exact-front : (n : ℕ) → 4 * n ≤ length q → o .exact b (take (4 * n) q) ≡ record { refusal = 0; value = d (take n xs) }
+  pub front-value : (n : ℕ) → 4 * n ≤ length q → GivesValue o b (take (4 * n) q) (d (take n xs))
   -- Prefixes: length and value of each prefix that is a key, shortest first. There is one such list.
   pub prefixes : (ms : List (ℕ × ℕ)) → PrefixesIn d xs ms → o .prefixes b q ≡ prefixesAnswer 0 ms
   pub some-prefixes : (ms : List (ℕ × ℕ)) × PrefixesIn d xs ms
@@ -29,15 +34,14 @@ pub record Searched (o : Operations) (b : List ℕ) (d : PairSet) (q xs : List �
   pub longest : (n : ℕ) → LongestIn d xs n → o .longest b q ≡ record { refusal = 0; part = take (4 * n) q }
   pub some-longest : (n : ℕ) × LongestIn d xs n
   pub one-longest : (m n : ℕ) → LongestIn d xs m → LongestIn d xs n → m ≡ n
-  -- Probe: value or none.
-  pub probe-refusal : o .probe b q .refusal ≡ 0
-  pub probe-value : o .probe b q .value ≡ d xs
 
 -- these answers and the others, over an image b of the set d
 pub record Answered (o : Operations) (b : List ℕ) (d : PairSet) (q xs : List ℕ) : Type 0 where
   pub searched : Searched o b d q xs
-  -- Probe: whether longer keys exist.
-  pub probe-longer : (o .probe b q .longer ≡ true) ↔ Longer d xs
+  -- Lookup: the case that is true of the labels. There is one such case.
+  pub lookup : (c : Case) → CaseIn d xs c → o .lookup b q ≡ record { refusal = 0; case = c }
+  pub some-case : (c : Case) × CaseIn d xs c
+  pub one-case : (c e : Case) → CaseIn d xs c → CaseIn d xs e → c ≡ e
   -- Completions: the pairs whose keys begin with the labels, in code order. There is one such list.
   pub some-listing : (ps : List Pair) × Lists b d xs ps
   pub one-listing : (ps rs : List Pair) → Lists b d xs ps → Lists b d xs rs → ps ≡ rs
@@ -53,7 +57,7 @@ abbrev pub Demand2 : Operations → Type 0
 Demand2 o = (b : List ℕ) (d : PairSet) (q : List ℕ) → ImageOf b d → length q % 4 ≡ 0 → Answered o b d q (labelsOf q)
 
 -- What holds without the check: if 1 to 8 and 13 refuse nothing, then, whether or not the image is accepted, the searches agree on
--- the pairs that exact finds. So prefixes are the lengths and values at which exact finds a value, longest is the last of them,
--- and probe's value is exact's.
+-- the pairs that lookup finds. So prefixes are the lengths and values at which lookup finds a value, and longest is the last of
+-- them. (Whether lookup says prefix is decided by the width of a list, and no other search reads it.)
 abbrev pub SearchesAgree : Type 0
-SearchesAgree = (b q : List ℕ) → searchRefusal b q ≡ 0 → Searched defined b (exactValue b) q (labelsOf q)
+SearchesAgree = (b q : List ℕ) → searchRefusal b q ≡ 0 → Searched defined b (valueFor b) q (labelsOf q)

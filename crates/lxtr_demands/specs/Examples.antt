@@ -4,10 +4,9 @@
 use Prim.Native.Nat.{ℕ}
 use mathlib.Core.Path.{refl}
 use mathlib.Core.List.{List, [], _∷_}
-use mathlib.Core.Option.{some, none}
-use mathlib.Core.Bool.{true, false}
 use Rattle.lxtr_spec.specs.Samples.{p1, p2, p3, p7, p8-check, p8-slot, p9-labels, p9-longer, p10, p11}
-use Rattle.lxtr_demands.specs.Rows.{Example, image-bytes, image-length, accepted, refused, exact, prefixes, prefix-words, longest, probe, completes, builds, AllHold, _and_, computing}
+use Rattle.lxtr_spec.specs.declared.Case.the-variants.{Neither, PrefixOnly, ExactOnly, ExactAndPrefix}
+use Rattle.lxtr_demands.specs.Rows.{Example, image-bytes, image-length, accepted, refused, lookup, prefixes, prefix-words, longest, completes, builds, AllHold, _and_, computing}
 
 -- The bytes of the images: header with N, E and M; slots from 0, base and check; offsets; children; code map.
 unfoldable pub p1-bytes : List ℕ
@@ -75,18 +74,16 @@ examples =
     ∷ builds ((0x6E ∷ []) ∷ (0x6E ∷ 0x61 ∷ []) ∷ []) 14 p3 ∷ image-bytes p3 p3-bytes ∷ image-length p3 141 ∷ accepted p3 2
     ∷ completes p3 [] ((0x6E ∷ [], 0) ∷ (0x6E ∷ 0x61 ∷ [], 1) ∷ [])
     (1 ∷ 0 ∷ 0 ∷ 0 ∷ 2 ∷ 1 ∷ 0 ∷ 0 ∷ 0 ∷ 0x6E ∷ 0 ∷ 0 ∷ 0 ∷ 0 ∷ 2 ∷ 0 ∷ 0 ∷ 0 ∷ 0x6E ∷ 0 ∷ 0 ∷ 0 ∷ 0x61 ∷ 0 ∷ 0 ∷ 0 ∷ 1 ∷ [])
-    -- P4
-    ∷ exact p3 (0x6E ∷ []) (some 0) 0x1_0000_0000 ∷ exact p3 (0x6E ∷ 0x61 ∷ []) (some 1) 0x1_0000_0001 ∷ exact p3 (0x61 ∷ []) none 0 ∷ exact p3 [] none 0
+    -- P4 and P6, restated by request 6 of document 02: exact's number, then probe's
+    ∷ lookup p3 (0x6E ∷ []) (ExactAndPrefix 0) 0x1_0000_0000 0x3_0000_0000 ∷ lookup p3 (0x6E ∷ 0x61 ∷ []) (ExactOnly 1) 0x1_0000_0001 0x1_0000_0001
+    ∷ lookup p3 (0x61 ∷ []) Neither 0 0 ∷ lookup p3 [] PrefixOnly 0 0x2_0000_0000 ∷ lookup p3 (0x78 ∷ []) Neither 0 0
     -- P5
     ∷ prefixes p3 (0x6E ∷ 0x61 ∷ 0x6E ∷ []) (1 ∷ 2 ∷ []) (0 ∷ 1 ∷ [])
     ∷ prefixes p3 (0x6E ∷ 0x61 ∷ []) (1 ∷ 2 ∷ []) (0 ∷ 1 ∷ [])
     ∷ prefix-words p3 (0x6E ∷ 0x61 ∷ 0x6E ∷ []) 3 (1 ∷ 0 ∷ 2 ∷ []) 2
     ∷ longest p3 (0x6E ∷ 0x61 ∷ 0x6E ∷ []) (0x6E ∷ 0x61 ∷ [])
-    -- P6
-    ∷ probe p3 (0x6E ∷ []) (some 0) true 0x3_0000_0000 ∷ probe p3 (0x6E ∷ 0x61 ∷ []) (some 1) false 0x1_0000_0001
-    ∷ probe p3 [] none true 0x2_0000_0000 ∷ probe p3 (0x78 ∷ []) none false 0
-    -- P7
-    ∷ refused p7 11 ∷ exact p7 (0x6E ∷ 0x61 ∷ []) (some 1) 0x1_0000_0001
+    -- P7, restated
+    ∷ refused p7 11 ∷ lookup p7 (0x6E ∷ 0x61 ∷ []) (ExactOnly 1) 0x1_0000_0001 0x1_0000_0001
     -- P8, P9, P10
     ∷ refused p8-check 10 ∷ refused p8-slot 10 ∷ refused p9-labels 9 ∷ refused p9-longer 6 ∷ refused p10 12
     -- P11
@@ -101,10 +98,9 @@ examples-hold =
     (refl, refl) and refl and refl and (refl, refl) and (refl, refl, refl)
     and (refl, refl) and refl and refl and (refl, refl) and (refl, refl, refl)
     and (refl, refl) and refl and refl and (refl, refl) and (refl, refl, refl)
-    and (refl, refl) and (refl, refl) and (refl, refl) and (refl, refl)
+    and (refl, refl, refl) and (refl, refl, refl) and (refl, refl, refl) and (refl, refl, refl) and (refl, refl, refl)
     and refl and refl and refl and (refl, refl)
-    and (refl, refl) and (refl, refl) and (refl, refl) and (refl, refl)
-    and (refl, refl, refl) and (refl, refl)
+    and (refl, refl, refl) and (refl, refl, refl)
     and (refl, refl, refl) and (refl, refl, refl) and (refl, refl, refl) and (refl, refl, refl) and (refl, refl, refl)
     and (refl, refl) and refl and (refl, refl) and (refl, refl, refl)
     and tt

@@ -26,7 +26,7 @@ pub mod RightPlaces
 -- The highest value.
 pub mod HighestValue
 -- The other searches.
-pub mod Probes
+pub mod Lookups
 pub mod Prefixes
 pub mod Searches
 pub mod Demand2

@@ -15,11 +15,11 @@ use Rattle.lxtr_spec.specs.Refusals.{refuseIf, firstRefusal, unlessRefused, too
 use Rattle.lxtr_spec.specs.FaultPlaces.{faultIf, labelFault, slotFault, offsetFault, entryFaultOf, entryFault, isEntry, unlisted, unlistedFault, childlessFault, listFault, reachFault, faultBy, faultOf}
 use Rattle.lxtr_spec.specs.HighestValues.{larger, highestBelow, highestOf}
 use Rattle.lxtr_spec.specs.Walks.{step, stepBy, walk, walkWithin, leafValue, valueAt, valueReached, valueOf, longerAt}
-use Rattle.lxtr_spec.specs.Searches.{queryRefusal, searchRefusal, exactValue, exactOf, lengthMatch, matchAt, matches, prefixMatches, prefixesAnswer, prefixesOf, lastLength, longestLength, longestOf, probeAnswer, probeAt, probeOf}
-use Rattle.lxtr_spec.specs.Positions.{TypingPosition, freshPosition, allWalked, slotBy, oneMore, maxTyped, pushed, oneLess, takenBack, isPlaced, moveAnswer, movedTo, pushOf, backOf, reachedSlot, positionProbeOf}
+use Rattle.lxtr_spec.specs.Searches.{queryRefusal, searchRefusal, caseValue, caseLonger, caseOf, caseAt, caseFor, lookupOf, lengthMatch, matchAt, matches, prefixMatches, prefixesAnswer, prefixesOf, lastLength, longestLength, longestOf}
+use Rattle.lxtr_spec.specs.Positions.{TypingPosition, freshPosition, allWalked, slotBy, oneMore, maxTyped, pushed, oneLess, takenBack, isPlaced, moveAnswer, movedTo, pushOf, backOf, reachedSlot, positionLookupOf}
 use Rattle.lxtr_spec.specs.Reasons.{endedWith, stoppedAt, reasonFrom, reasonOf, whyOf, reasonNumber, reasonPlace}
 use Rattle.lxtr_spec.specs.Completions.{entryPairs, listFrom, pairsAt, pairsBelow, recordOf, recordsOf, fitting, listingOf, listedIn, completionAnswer, written, completionRefusal, completionOf}
-use Rattle.lxtr_spec.specs.HostNumbers.{hostNumber, valueNumbered, checkNumber, exactNumber, probeNumber, longestNumber, placeNumber, faultNumbered, faultNumber, highestNumber, reasonNumbered, whyNumber, placeWords, alternately, atFront, placesAfter, prefixesNumber, hostPrefixesOf, positionNumber, positionOf, hostFresh, hostPushOf, hostBackOf, positionProbeNumber, completionNumber, hostCompletionOf, builtNumber, hostBuildOf}
+use Rattle.lxtr_spec.specs.HostNumbers.{hostNumber, valueNumbered, checkNumber, exactNumbered, probeNumbered, exactNumber, probeNumber, longestNumber, placeNumber, faultNumbered, faultNumber, highestNumber, reasonNumbered, whyNumber, placeWords, alternately, atFront, placesAfter, prefixesNumber, hostPrefixesOf, positionNumber, positionOf, hostFresh, hostPushOf, hostBackOf, positionProbeNumber, completionNumber, hostCompletionOf, builtNumber, hostBuildOf}
 use Rattle.lxtr_spec.specs.KeyLists.{listVersion, keyCount, keyLength, keyLabel, nextKey, keyLabels, keyAt, keysFrom, pairsOf, noScalarAt, notAbove, keyRefusal, keysRefusal, listRefusal}
 use Rattle.lxtr_spec.specs.CodeMaps.{insert, insertAll, labelsUsed, occurrences, frequency, goesBefore, rankIn, ranked, mapOf, codeIn, labelWith}
 use Rattle.lxtr_spec.specs.Placing.{baseAt, checkAt, isTakenFrom2, isFree, fits, firstFitFrom, firstFit, nextCode, childCodes, below, endValue, putChild, putChildren, putParent, settle, intoEach, place}
@@ -27,6 +27,8 @@ use Rattle.lxtr_spec.specs.Builds.{headerBytes, mapBytes, imageBytes, slotsUsed
 use Rattle.lxtr_spec.specs.Samples.{p1, p2, nodes3, offsets3, children3, labels3, p3, p7, p8-check, p8-slot, p9-labels, p9-longer, p10, p11, keyRecords, keyList}
 use Rattle.lxtr_spec.specs.declared.Fault.{Fault}
 use Rattle.lxtr_spec.specs.declared.Reason.{Reason}
+use Rattle.lxtr_spec.specs.declared.Case.{Case}
+use Rattle.lxtr_spec.specs.declared.Case.the-variants.{Neither}
 use Rattle.lxtr_spec.specs.declared.Reason.the-variants.{NoReason}
 use Rattle.lxtr_laws.specs.ExampleTables as tables
 pub use Rattle.lxtr_laws.specs.ExampleTables.{_and_}
@@ -47,19 +49,17 @@ pub data Example : Type 0 where
   -- an accepted image, the highest value of its set, number for the host program; and a refused image, its refusal
   highest : List ℕ → Option ℕ → ℕ → Example
   highest-refused : List ℕ → ℕ → Example
-  -- image, query, value, number for the host program
-  exact : List ℕ → List ℕ → Option ℕ → ℕ → Example
+  -- image, query, case, numbers for the host program: that of exact, and that of probe
+  lookup : List ℕ → List ℕ → Case → ℕ → ℕ → Example
   -- image, query, lengths and values of the matches
   prefixes : List ℕ → List ℕ → List ℕ → List ℕ → Example
   -- image, query, how many words are lent to the host's entry for prefixes, what they hold afterwards, number for the host program
   prefix-words : List ℕ → List ℕ → ℕ → List ℕ → ℕ → Example
   -- image, query, the matched part
   longest : List ℕ → List ℕ → List ℕ → Example
-  -- image, query, value, whether longer keys exist, number for the host program
-  probe : List ℕ → List ℕ → Option ℕ → Bool → ℕ → Example
-  -- image, moves from a fresh typing position; value, whether longer keys exist, number for the host program
-  typed : List ℕ → List Move → Option ℕ → Bool → ℕ → Example
-  -- an image over which a typing position stays and answers neither a value nor longer keys; the refusal or 0
+  -- image, moves from a fresh typing position; case, number for the host program
+  typed : List ℕ → List Move → Case → ℕ → Example
+  -- an image over which a typing position stays and its lookup says nothing; the refusal or 0
   position-stays : List ℕ → TypingPosition → ℕ → Example
   -- image, query, why it is found or not, number for the host program; and a refused image or query, its refusal
   why : List ℕ → List ℕ → Reason → ℕ → Example
@@ -100,27 +100,24 @@ Holds (refused b k) =
 Holds (fault-at b f n) = (faultOf b ≡ f) × (faultNumber b ≡ n)
 Holds (highest b v n) = (highestOf b ≡ record { refusal = 0; value = v }) × (highestNumber b ≡ n)
 Holds (highest-refused b k) = (highestOf b ≡ record { refusal = k; value = none }) × (highestNumber b ≡ k * 2 ^ 40)
-Holds (exact b xs v n) = (exactOf b (beWords xs) ≡ record { refusal = 0; value = v }) × (exactNumber b (beWords xs) ≡ n)
+Holds (lookup b xs c n m) = (lookupOf b (beWords xs) ≡ record { refusal = 0; case = c }) × (exactNumber b (beWords xs) ≡ n) × (probeNumber b (beWords xs) ≡ m)
 Holds (prefixes b xs lengths values) =
     prefixesOf b (beWords xs) ≡ record { refusal = 0; count = length lengths; lengths = lengths ++ replicate (lengthCount - length lengths) 0; values = values ++ replicate (lengthCount - length values) 0 }
 Holds (prefix-words b xs n words number) = hostPrefixesOf b (beWords xs) (unset n) ≡ record { number = number; places = words }
 Holds (longest b xs ys) = (longestOf b (beWords xs) ≡ record { refusal = 0; part = beWords ys }) × (longestNumber b (beWords xs) ≡ length ys)
-Holds (probe b xs v longer n) =
-    (probeOf b (beWords xs) ≡ record { refusal = 0; value = v; longer = longer }) × (probeNumber b (beWords xs) ≡ n)
-Holds (typed b ms v longer n) =
-    (positionProbeOf b (movedBy (library definedMoves) b freshPosition ms) ≡ record { refusal = 0; value = v; longer = longer })
+Holds (typed b ms c n) =
+    (positionLookupOf b (movedBy (library definedMoves) b freshPosition ms) ≡ record { refusal = 0; case = c })
     × (positionProbeNumber b (movedBy (host definedHostMoves) b hostFresh ms) ≡ n)
 Holds (position-stays b p k) =
     (pushOf b p 0x61 ≡ record { refusal = k; position = p }) × (hostPushOf b (positionNumber p) 0x61 ≡ positionNumber p)
     × (backOf b p ≡ record { refusal = k; position = p }) × (hostBackOf b (positionNumber p) ≡ positionNumber p)
-    × (positionProbeOf b p ≡ record { refusal = k; value = none; longer = false }) × (positionProbeNumber b (positionNumber p) ≡ k * 2 ^ 40)
+    × (positionLookupOf b p ≡ record { refusal = k; case = Neither }) × (positionProbeNumber b (positionNumber p) ≡ k * 2 ^ 40)
 Holds (why b xs r n) = (whyOf b (beWords xs) ≡ record { refusal = 0; reason = r }) × (whyNumber b (beWords xs) ≡ n)
 Holds (why-refused b q k) = (whyOf b q ≡ record { refusal = k; reason = NoReason }) × (whyNumber b q ≡ k * 2 ^ 40)
 Holds (query-refused b q k) =
-    (exactOf b q ≡ record { refusal = k; value = none }) × (exactNumber b q ≡ k * 2 ^ 40)
+    (lookupOf b q ≡ record { refusal = k; case = Neither }) × (exactNumber b q ≡ k * 2 ^ 40) × (probeNumber b q ≡ k * 2 ^ 40)
     × (prefixesOf b q ≡ record { refusal = k; count = 0; lengths = replicate lengthCount 0; values = replicate lengthCount 0 })
     × (longestOf b q ≡ record { refusal = k; part = [] }) × (longestNumber b q ≡ k * 2 ^ 40)
-    × (probeOf b q ≡ record { refusal = k; value = none; longer = false }) × (probeNumber b q ≡ k * 2 ^ 40)
     × (hostPrefixesOf b q (unset 3) ≡ record { number = k * 2 ^ 40; places = unset 3 })
 Holds (completion-refused b q n k) =
     (completionOf b q (unwritten n) ≡ record { answer = record { refusal = k; count = 0; stopped = false }; room = unwritten n })
@@ -148,5 +145,5 @@ AllHold es = tables.AllHold Holds es
 
 -- every definition that a row runs: to unfold this name is to unfold them all
 unfoldable pub computing : Unit {0}
-unfolding anyBelow countBelow firstFrom firstBelow le32 be32 leBytes beBytes leWords beWords isScalar maxLabels labelsFrom labelsOf slotUnder codeUnder magic version slotCount childCount mapLength baseWord checkWord isLeaf hasLeaf parent hasParent base valueNumber slotFrom codeTo offset child listWidth mapVersion labelCount labelAt labelOfCode codeFrom codeOf refuseIf firstRefusal unlessRefused tooShort byteDiffers magicDiffers versionWrong reservedSet sizesWrong lengthWrong mapWrong offsetEndsWrong headerRefusal sameLabel labelWrong labelsWrong isUsedFrom2 isUsed ownCode bothZero usedSlotWrong endExists flagWrong slotWrong slotsWrong offsetFalls usedCount entryWrong codeNotAbove entryWrongIn entriesWrong childless rootWrong listsWrong reaches unreachable someUnreachable bodyRefusal imageRefusal isEnd endCount checkOf faultIf labelFault slotFault offsetFault entryFaultOf entryFault isEntry unlisted unlistedFault childlessFault listFault reachFault faultBy faultOf larger highestBelow highestOf step stepBy walk walkWithin leafValue valueAt valueReached valueOf longerAt queryRefusal searchRefusal exactValue exactOf lengthMatch matchAt matches prefixMatches prefixesAnswer prefixesOf lastLength longestLength longestOf probeAnswer probeAt probeOf freshPosition allWalked slotBy oneMore maxTyped pushed oneLess takenBack isPlaced moveAnswer movedTo pushOf backOf reachedSlot positionProbeOf moved movedBy endedWith stoppedAt reasonFrom reasonOf whyOf reasonNumber reasonPlace concatFrom entryPairs listFrom pairsAt pairsBelow recordOf recordsOf fitting listingOf listedIn completionAnswer written completionRefusal completionOf hostNumber valueNumbered checkNumber exactNumber probeNumber longestNumber placeNumber faultNumbered faultNumber highestNumber reasonNumbered whyNumber placeWords alternately atFront placesAfter prefixesNumber hostPrefixesOf positionNumber positionOf hostFresh hostPushOf hostBackOf positionProbeNumber completionNumber hostCompletionOf builtNumber hostBuildOf comesBefore listVersion keyCount keyLength keyLabel nextKey keyLabels keyAt keysFrom pairsOf noScalarAt notAbove keyRefusal keysRefusal listRefusal insert insertAll labelsUsed occurrences frequency goesBefore rankIn ranked mapOf codeIn labelWith baseAt checkAt isTakenFrom2 isFree fits firstFitFrom firstFit nextCode childCodes below endValue putChild putChildren putParent settle intoEach place headerBytes mapBytes imageBytes slotsUsed isChild childBy childrenOf childrenIn offsetsFrom imageIn slotsIn placedIn withRoom fromPlaced fromLabels fromKeys outcomeOf answered workAfter buildOf keyRecords keyList p1 p2 nodes3 offsets3 children3 labels3 p3 p7 p8-check p8-slot p9-labels p9-longer p10 p11
+unfolding anyBelow countBelow firstFrom firstBelow le32 be32 leBytes beBytes leWords beWords isScalar maxLabels labelsFrom labelsOf slotUnder codeUnder magic version slotCount childCount mapLength baseWord checkWord isLeaf hasLeaf parent hasParent base valueNumber slotFrom codeTo offset child listWidth mapVersion labelCount labelAt labelOfCode codeFrom codeOf refuseIf firstRefusal unlessRefused tooShort byteDiffers magicDiffers versionWrong reservedSet sizesWrong lengthWrong mapWrong offsetEndsWrong headerRefusal sameLabel labelWrong labelsWrong isUsedFrom2 isUsed ownCode bothZero usedSlotWrong endExists flagWrong slotWrong slotsWrong offsetFalls usedCount entryWrong codeNotAbove entryWrongIn entriesWrong childless rootWrong listsWrong reaches unreachable someUnreachable bodyRefusal imageRefusal isEnd endCount checkOf faultIf labelFault slotFault offsetFault entryFaultOf entryFault isEntry unlisted unlistedFault childlessFault listFault reachFault faultBy faultOf larger highestBelow highestOf step stepBy walk walkWithin leafValue valueAt valueReached valueOf longerAt queryRefusal searchRefusal caseValue caseLonger caseOf caseAt caseFor lookupOf lengthMatch matchAt matches prefixMatches prefixesAnswer prefixesOf lastLength longestLength longestOf freshPosition allWalked slotBy oneMore maxTyped pushed oneLess takenBack isPlaced moveAnswer movedTo pushOf backOf reachedSlot positionLookupOf moved movedBy endedWith stoppedAt reasonFrom reasonOf whyOf reasonNumber reasonPlace concatFrom entryPairs listFrom pairsAt pairsBelow recordOf recordsOf fitting listingOf listedIn completionAnswer written completionRefusal completionOf hostNumber valueNumbered checkNumber exactNumbered probeNumbered exactNumber probeNumber longestNumber placeNumber faultNumbered faultNumber highestNumber reasonNumbered whyNumber placeWords alternately atFront placesAfter prefixesNumber hostPrefixesOf positionNumber positionOf hostFresh hostPushOf hostBackOf positionProbeNumber completionNumber hostCompletionOf builtNumber hostBuildOf comesBefore listVersion keyCount keyLength keyLabel nextKey keyLabels keyAt keysFrom pairsOf noScalarAt notAbove keyRefusal keysRefusal listRefusal insert insertAll labelsUsed occurrences frequency goesBefore rankIn ranked mapOf codeIn labelWith baseAt checkAt isTakenFrom2 isFree fits firstFitFrom firstFit nextCode childCodes below endValue putChild putChildren putParent settle intoEach place headerBytes mapBytes imageBytes slotsUsed isChild childBy childrenOf childrenIn offsetsFrom imageIn slotsIn placedIn withRoom fromPlaced fromLabels fromKeys outcomeOf answered workAfter buildOf keyRecords keyList p1 p2 nodes3 offsets3 children3 labels3 p3 p7 p8-check p8-slot p9-labels p9-longer p10 p11
 computing = tt

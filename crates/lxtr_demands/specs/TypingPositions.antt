@@ -1,23 +1,24 @@
--- What typing positions have to answer, of any program: after any sequence of moves, what probe answers for the labels typed so
+-- What typing positions have to answer, of any program: after any sequence of moves, what lookup answers for the labels typed so
 -- far. Which labels these are is said of a list alone; that the image may have cycles, or be refused, makes no difference.
 -- Only the programs that the statements are about, and the statements; that the definitions meet them is proved in
 -- Laws/TypingPositions.antt, for C in Laws/PositionNumbers.antt.
 use Prim.Native.Nat.{ℕ, _*_, _-_, _%_, _^_, _≤_, _<_}
 use mathlib.Core.Path.{_≡_}
-use mathlib.Core.Logic.{_≢_, _↔_}
+use mathlib.Core.Logic.{_≢_}
 use mathlib.Core.List.{List, [], _∷_, _++_}
-use mathlib.Core.Option.{none}
-use mathlib.Core.Bool.{true, false, cond}
+use mathlib.Core.Bool.{cond}
 use lib.Dec.{ltb}
 use lib.ListN.{length, take, getD}
 use Rattle.lxtr_spec.specs.Labels.{labelsOf}
 use Rattle.lxtr_spec.specs.Image.{slotCount}
 use Rattle.lxtr_spec.specs.Refusals.{headerRefusal}
-use Rattle.lxtr_spec.specs.Searches.{ProbeAnswer, probeAnswer, probeOf}
-use Rattle.lxtr_spec.specs.Positions.{TypingPosition, freshPosition, maxTyped, MoveAnswer, moveAnswer, pushOf, backOf, positionProbeOf}
+use Rattle.lxtr_spec.specs.Searches.{lookupOf}
+use Rattle.lxtr_spec.specs.Positions.{TypingPosition, freshPosition, maxTyped, MoveAnswer, moveAnswer, pushOf, backOf, positionLookupOf}
 use Rattle.lxtr_spec.specs.HostNumbers.{probeNumber, positionOf, hostFresh, hostPushOf, hostBackOf, positionProbeNumber}
 use Rattle.lxtr_spec.specs.Sets.{PairSet, ImageOf}
-use Rattle.lxtr_spec.specs.Meaning.{Longer}
+use Rattle.lxtr_spec.specs.Meaning.{CaseIn}
+use Rattle.lxtr_spec.specs.declared.Case.the-variants.{Neither}
+use Rattle.lxtr_spec.specs.declared.Lookup.{Lookup}
 
 -- A move: one more label, or the last one taken back.
 pub data Move : Type 0 where
@@ -38,7 +39,7 @@ abbrev pub held : List Move → List ℕ
 held ms = heldFrom [] ms
 
 -- A program, whatever its positions and its answers are: a fresh position, the position after a push and after a taking-back, what
--- a position answers, and what probe answers for a query.
+-- a position answers, and what is answered for a query.
 pub record PositionProgram : Type 1 where
   pub Position : Type 0
   pub Answer : Type 0
@@ -46,7 +47,7 @@ pub record PositionProgram : Type 1 where
   pub pushed : List ℕ → Position → ℕ → Position
   pub takenBack : List ℕ → Position → Position
   pub answer : List ℕ → Position → Answer
-  pub probe : List ℕ → List ℕ → Answer
+  pub lookup : List ℕ → List ℕ → Answer
 
 -- the position after one move, and after several, over one unchanged image
 unfoldable pub moved : (o : PositionProgram) → List ℕ → o .Position → Move → o .Position
@@ -57,10 +58,10 @@ unfoldable pub movedBy : (o : PositionProgram) → List ℕ → o .Position → 
 movedBy o b p [] = p
 movedBy o b p (m ∷ ms) = movedBy o b (moved o b p m) ms
 
--- After any sequence of moves from a fresh position, the answer, refusals included, is what probe answers for a query of the labels
+-- After any sequence of moves from a fresh position, the answer, refusals included, is what is answered for a query of the labels
 -- typed so far.
-abbrev pub AnswersAsProbe : PositionProgram → Type 0
-AnswersAsProbe o = (b : List ℕ) (ms : List Move) (q : List ℕ) → length q % 4 ≡ 0 → labelsOf q ≡ held ms → o .answer b (movedBy o b (o .fresh) ms) ≡ o .probe b q
+abbrev pub AnswersAsLookup : PositionProgram → Type 0
+AnswersAsLookup o = (b : List ℕ) (ms : List Move) (q : List ℕ) → length q % 4 ≡ 0 → labelsOf q ≡ held ms → o .answer b (movedBy o b (o .fresh) ms) ≡ o .lookup b q
 
 -- Moves that leave the same labels lead to the same position: a label that was typed and taken back makes no difference. (Document 02
 -- asks it of the answers only.)
@@ -73,43 +74,42 @@ pub record MoveOperations : Type 0 where
   pub fresh : TypingPosition
   pub push : List ℕ → TypingPosition → ℕ → MoveAnswer
   pub back : List ℕ → TypingPosition → MoveAnswer
-  pub probe : List ℕ → TypingPosition → ProbeAnswer
+  pub lookup : List ℕ → TypingPosition → Lookup
 
 abbrev pub definedMoves : MoveOperations
-definedMoves = record { fresh = freshPosition; push = pushOf; back = backOf; probe = positionProbeOf }
+definedMoves = record { fresh = freshPosition; push = pushOf; back = backOf; lookup = positionLookupOf }
 
 -- as a program with positions
 abbrev pub library : MoveOperations → PositionProgram
-library o = record { Position = TypingPosition; Answer = ProbeAnswer; fresh = o .fresh; pushed = λ b p x. o .push b p x .position; takenBack = λ b p. o .back b p .position; answer = o .probe; probe = probeOf }
+library o = record { Position = TypingPosition; Answer = Lookup; fresh = o .fresh; pushed = λ b p x. o .push b p x .position; takenBack = λ b p. o .back b p .position; answer = o .lookup; lookup = lookupOf }
 
--- p stays, and the answer is neither a value nor longer keys, with this refusal
+-- p stays, and its lookup says nothing, with this refusal
 pub record Stays (o : MoveOperations) (b : List ℕ) (p : TypingPosition) (k : ℕ) : Type 0 where
   pub pushed : (x : ℕ) → o .push b p x ≡ moveAnswer k p
   pub taken-back : o .back b p ≡ moveAnswer k p
-  pub answer : o .probe b p ≡ probeAnswer k none false
+  pub answer : o .lookup b p ≡ record { refusal = k; case = Neither }
 
 -- labels are 32-bit numbers, so that a query can have them
 abbrev pub Words : List ℕ → Type 0
 Words xs = (i : ℕ) → i < length xs → getD xs i 0 < 2 ^ 32
 
 pub record PositionDemand (o : MoveOperations) : Type 0 where
-  pub answers-as-probe : AnswersAsProbe (library o)
+  pub answers-as-lookup : AnswersAsLookup (library o)
   -- There is such a query if the labels are 32-bit numbers.
   pub some-query : (ms : List Move) → Words (held ms) → (q : List ℕ) × (length q % 4 ≡ 0) × (labelsOf q ≡ held ms)
   pub same-position : SamePosition (library o)
-  -- Over an image of the set d this is what the set says of the labels typed so far: the value or none, and whether longer keys
-  -- exist.
+  -- Over an image of the set d it is the case that the set says of the labels typed so far.
   pub in-set : (b : List ℕ) (d : PairSet) (ms : List Move) → ImageOf b d → Words (held ms)
-      → (let a = o .probe b (movedBy (library o) b (o .fresh) ms) in (a .refusal ≡ 0) × (a .value ≡ d (held ms)) × ((a .longer ≡ true) ↔ Longer d (held ms)))
-  -- Every position, given by calls or not: push and take back give the refusal that probe gives, the first of 1 to 8 that holds, or
-  -- 0.
+      → (let a = o .lookup b (movedBy (library o) b (o .fresh) ms) in (a .refusal ≡ 0) × CaseIn d (held ms) (a .case))
+  -- Every position, given by calls or not: push and take back give the refusal that lookup gives, the first of 1 to 8 that holds,
+  -- or 0.
   pub refusals : (b : List ℕ) (p : TypingPosition) (x : ℕ) → (o .push b p x .refusal ≡ headerRefusal b) × (o .back b p .refusal ≡ headerRefusal b)
   -- A refusal leaves the position unchanged. So does a place that isn't below N, where nothing is refused.
   pub refused : (b : List ℕ) (p : TypingPosition) → headerRefusal b ≢ 0 → Stays o b p (headerRefusal b)
   pub outside : (b : List ℕ) (p : TypingPosition) → headerRefusal b ≡ 0 → slotCount b ≤ p .slot → Stays o b p 0
 
--- The functions for C: a position is a 64-bit number, and an answer is the number that the probe gives. (What a set says of it follows
--- from what it says of the probe.)
+-- The functions for C: a position is a 64-bit number, and an answer is the number that C's probe gives. (What a set says of it follows
+-- from what it says of the lookup.)
 pub record HostMoves : Type 0 where
   pub fresh : ℕ
   pub push : List ℕ → ℕ → ℕ → ℕ
@@ -120,16 +120,16 @@ abbrev pub definedHostMoves : HostMoves
 definedHostMoves = record { fresh = hostFresh; push = hostPushOf; back = hostBackOf; probe = positionProbeNumber }
 
 abbrev pub host : HostMoves → PositionProgram
-host o = record { Position = ℕ; Answer = ℕ; fresh = o .fresh; pushed = o .push; takenBack = o .back; answer = o .probe; probe = probeNumber }
+host o = record { Position = ℕ; Answer = ℕ; fresh = o .fresh; pushed = o .push; takenBack = o .back; answer = o .probe; lookup = probeNumber }
 
--- the number n stays, and the answer is neither a value nor longer keys, with this refusal
+-- the number n stays, and its probe says nothing, with this refusal
 pub record HostStays (o : HostMoves) (b : List ℕ) (n k : ℕ) : Type 0 where
   pub pushed : (x : ℕ) → o .push b n x ≡ n
   pub taken-back : o .back b n ≡ n
   pub answer : o .probe b n ≡ k * 2 ^ 40
 
 pub record HostPositionDemand (o : HostMoves) : Type 0 where
-  pub answers-as-probe : AnswersAsProbe (host o)
+  pub answers-as-lookup : AnswersAsLookup (host o)
   pub same-position : SamePosition (host o)
   -- Push and take back accept every 64-bit number, and answer one.
   pub numbers : (b : List ℕ) (n x : ℕ) → n < 2 ^ 64 → (o .push b n x < 2 ^ 64) × (o .back b n < 2 ^ 64)

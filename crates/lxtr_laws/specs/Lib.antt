@@ -41,6 +41,7 @@ pub mod Tallies
 pub mod Stepping
 pub mod QueryLabels
 pub mod Walking
+pub mod Cases
 pub mod SearchReturns
 pub mod WalkReasons
 -- how a table of computed examples is stated and proved

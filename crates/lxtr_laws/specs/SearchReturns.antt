@@ -3,19 +3,20 @@ use Prim.Native.Nat.{ℕ, _*_, _%_}
 use mathlib.Core.Path.{_≡_, refl, sym, _∙_}
 use mathlib.Core.Logic.{_↔_}
 use mathlib.Core.List.{List, []}
-use mathlib.Core.Option.{some, none}
-use mathlib.Core.Bool.{Bool, false}
+use mathlib.Core.Option.{some}
 use lib.ListN.{length, take}
 use borrow.Author.Tests.{ne-eqb}
 use Rattle.lxtr_spec.specs.Labels.{labelsOf}
 use Rattle.lxtr_spec.specs.Refusals.{refuseIf, firstRefusal, unlessRefused, headerRefusal}
-use Rattle.lxtr_spec.specs.Walks.{walkWithin, valueAt, valueReached, longerAt}
-use Rattle.lxtr_spec.specs.Searches.{queryRefusal, searchRefusal, ExactAnswer, exactValue, exactOf, prefixMatches, prefixesAnswer, prefixesOf, LongestAnswer, lastLength, longestLength, longestOf, ProbeAnswer, probeAnswer, probeAt, probeOf}
-use Rattle.lxtr_spec.specs.Answers.{found, probeMeans}
+use Rattle.lxtr_spec.specs.Walks.{walkWithin}
+use Rattle.lxtr_spec.specs.Searches.{queryRefusal, searchRefusal, caseAt, caseFor, lookupOf, prefixMatches, prefixesAnswer, prefixesOf, LongestAnswer, lastLength, longestLength, longestOf}
+use Rattle.lxtr_spec.specs.Answers.{found}
 use Rattle.lxtr_spec.specs.declared.Found.{Found}
 use Rattle.lxtr_spec.specs.declared.Found.the-variants.{Is, Nothing}
+use Rattle.lxtr_spec.specs.declared.Case.{Case}
+use Rattle.lxtr_spec.specs.declared.Case.the-variants.{Neither}
+use Rattle.lxtr_spec.specs.declared.Lookup.{Lookup}
 use Rattle.lxtr_spec.specs.declared.Prefixes.{Prefixes}
-use Rattle.lxtr_spec.specs.declared.Probe.{Probe}
 use Rattle.lxtr_laws.specs.RefusalChains.{none-refused, none-first, first-stands, stands}
 use Rattle.lxtr_laws.specs.RangeTests.{tests}
 use Rattle.lxtr_laws.specs.Stepping.{found-is, found-none}
@@ -24,22 +25,6 @@ use Rattle.lxtr_laws.specs.Passed.{Passed, header-passed}
 pub query-passes : (q : List ℕ) → (queryRefusal q ≡ 0) ↔ (length q % 4 ≡ 0)
 unfolding queryRefusal
 query-passes q = simp (none-refused, tests) (λ p. p .0, λ e. (e, refl))
-
--- the value of the labels xs, for which the walk answered f
-module _ (b xs : List ℕ) (f : Found) (answer : found f ≡ walkWithin b xs) where
-  pub exact-nowhere : f ≡ Nothing → none ≡ exactValue b xs
-  unfolding exactValue valueReached
-  exact-nowhere h = rw (found-none f (walkWithin b xs) answer h)
-
-  pub exact-reached : (n : ℕ) (v : Found) → f ≡ Is n → found v ≡ valueAt b n → found v ≡ exactValue b xs
-  unfolding exactValue valueReached
-  exact-reached n v h e = rw (found-is f n (walkWithin b xs) answer h, e)
-
--- probe's answer at a slot
-pub slot-probed : (b : List ℕ) (n : ℕ) (v : Found) (l : Bool) → found v ≡ valueAt b n → l ≡ longerAt b n
-    → _≡_ {A = ProbeAnswer} (record { refusal = 0; value = found v; longer = l }) (probeAt b (some n))
-unfolding probeAt probeAnswer
-slot-probed b n v l e k = rw (e, k)
 
 -- r is the refusal that a call answered
 module _ (b q : List ℕ) (r : ℕ) where
@@ -63,9 +48,9 @@ module _ (b q : List ℕ) (r : ℕ) where
 
     -- the answers after a refusal
     module _ (h : r ≡ 0 → ⊥) where
-      pub exact-refused : _≡_ {A = ExactAnswer} (record { refusal = r; value = none }) (exactOf b q)
-      unfolding exactOf
-      exact-refused = rw (← known, stands r (exactValue b (labelsOf q)) none h)
+      pub lookup-refused : (a : Lookup) → a ≡ record { refusal = r; case = Neither } → a ≡ lookupOf b q
+      unfolding lookupOf
+      lookup-refused a e = rw (← known, stands r (caseFor b (labelsOf q)) Neither h) e
 
       pub prefixes-refused : (p : Prefixes) → p ≡ prefixesAnswer r [] → p ≡ prefixesOf b q
       unfolding prefixesOf
@@ -75,15 +60,16 @@ module _ (b q : List ℕ) (r : ℕ) where
       unfolding longestOf longestLength
       longest-refused = rw (← known, stands r (lastLength (prefixMatches b q)) 0 h)
 
-      pub probe-refused : (p : Probe) → probeMeans p ≡ probeAnswer r none false → probeMeans p ≡ probeOf b q
-      unfolding probeOf
-      probe-refused p e = rw (← known, stands r (probeAt b (walkWithin b (labelsOf q))) (probeAnswer r none false) h) e
-
     -- and without one
     module _ (z : r ≡ 0) where
-      pub exact-passed : (f : Found) → found f ≡ exactValue b (labelsOf q) → _≡_ {A = ExactAnswer} (record { refusal = 0; value = found f }) (exactOf b q)
-      unfolding exactOf unlessRefused
-      exact-passed f e = rw (sym known ∙ z, e)
+      module _ (f : Found) (walked : found f ≡ walkWithin b (labelsOf q)) where
+        pub lookup-nowhere : (a : Lookup) → f ≡ Nothing → a ≡ record { refusal = 0; case = Neither } → a ≡ lookupOf b q
+        unfolding lookupOf caseFor caseAt unlessRefused
+        lookup-nowhere a h e = rw (sym known ∙ z, found-none f (walkWithin b (labelsOf q)) walked h) e
+
+        pub lookup-reached : (c : Case) (n : ℕ) → f ≡ Is n → c ≡ caseAt b (some n) → _≡_ {A = Lookup} (record { refusal = 0; case = c }) (lookupOf b q)
+        unfolding lookupOf caseFor unlessRefused
+        lookup-reached c n h e = rw (sym known ∙ z, found-is f n (walkWithin b (labelsOf q)) walked h, e)
 
       pub prefixes-passed : (p : Prefixes) → p ≡ prefixesAnswer 0 (prefixMatches b q) → p ≡ prefixesOf b q
       unfolding prefixesOf unlessRefused
@@ -92,12 +78,3 @@ module _ (b q : List ℕ) (r : ℕ) where
       pub longest-passed : (n : ℕ) → n ≡ lastLength (prefixMatches b q) → _≡_ {A = LongestAnswer} (record { refusal = r; part = take (4 * n) q }) (longestOf b q)
       unfolding longestOf longestLength unlessRefused
       longest-passed n e = rw (z, sym known ∙ z, e)
-
-      module _ (f : Found) (walked : found f ≡ walkWithin b (labelsOf q)) where
-        pub probe-nowhere : (p : Probe) → f ≡ Nothing → probeMeans p ≡ probeAnswer 0 none false → probeMeans p ≡ probeOf b q
-        unfolding probeOf probeAt unlessRefused
-        probe-nowhere p h e = rw (sym known ∙ z, found-none f (walkWithin b (labelsOf q)) walked h) e
-
-        pub probe-reached : (p : Probe) (n : ℕ) → f ≡ Is n → probeMeans p ≡ probeAt b (some n) → probeMeans p ≡ probeOf b q
-        unfolding probeOf unlessRefused
-        probe-reached p n h e = rw (sym known ∙ z, found-is f n (walkWithin b (labelsOf q)) walked h) e

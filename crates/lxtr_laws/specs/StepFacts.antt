@@ -1,4 +1,4 @@
--- Steps, walks and values as facts: what holds when a step, a walk or exact search finds something.
+-- Steps, walks and values as facts: what holds when a step or a walk reaches a slot, and when there is a value.
 -- A walk along two lists is two walks, so a walk can be taken apart at its last label.
 use Prim.Native.Nat.{ℕ, _<_}
 use mathlib.Core.Path.{_≡_, refl, sym, ap, _∙_}
@@ -140,9 +140,9 @@ module _ (b : List ℕ) where
           let s = cond-some (isLeaf b (r .0)) (some (valueNumber b (r .0))) v .0 (r .2) in
           record { flag = f; slot = r .0; stepped = step-is n 0 (r .0) .0 (r .1); leaf = s .0; value = some-same (s .1) }
 
-  pub exact-is : (k : List ℕ) (v : ℕ) → (valueOf b k ≡ some v) ↔ ((n : ℕ) × (walk b 1 k ≡ some n) × Valued b n v)
+  pub value-of-is : (k : List ℕ) (v : ℕ) → (valueOf b k ≡ some v) ↔ ((n : ℕ) × (walk b 1 k ≡ some n) × Valued b n v)
   unfolding valueOf valueReached
-  exact-is k v = go (walk b 1 k)
+  value-of-is k v = go (walk b 1 k)
     where
       go : (o : Option ℕ) → (valueReached b o ≡ some v) ↔ ((n : ℕ) × (o ≡ some n) × Valued b n v)
       go none = (λ e. absurd (none-not-some e), λ r. absurd (none-not-some (r .1)))

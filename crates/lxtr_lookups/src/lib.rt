@@ -32,6 +32,9 @@ use lxtr_messages::refuse_at;
 use lxtr_messages::say;
 use lxtr_messages::tell;
 use lxtr_output::print;
+use lxtr_search::cases::found_value;
+use lxtr_search::cases::has_longer;
+use lxtr_search::lookup;
 use lxtr_spec::Found;
 use lxtr_spec::LENGTH_COUNT;
 use lxtr_spec::MAX_LABELS;
@@ -75,7 +78,7 @@ fn print_value(value: Found) -> bool {
 }
 
 // Prints why a query has no value. Whether longer keys exist can be told only if the check accepts the image.
-fn print_absent(image: &[u8], query: &[u8]) {
+fn print_absent(image: &[u8], query: &[u8], longer: bool) {
     if 4 * MAX_LABELS < query.len() {
         tell(LONG_QUERY, printed(MAX_LABELS), 0);
         return;
@@ -84,8 +87,7 @@ fn print_absent(image: &[u8], query: &[u8]) {
         say(ABSENT_IN_REFUSED);
         return;
     }
-    let answer = lxtr_search::probe(image, query);
-    if answer.longer {
+    if longer {
         say(ONLY_LONGER);
     } else {
         say(NO_KEY);
@@ -101,16 +103,15 @@ fn end_found(is_found: bool) {
 }
 
 pub fn exact(image: &[u8], query: &[u8]) {
-    let answer = lxtr_search::exact(image, query);
+    let answer = lookup(image, query);
     if answer.refusal != 0 {
         refuse(answer.refusal);
         return;
     }
     print_word(query);
-    let value = answer.value;
-    let is_found = print_value(value);
+    let is_found = print_value(found_value(answer));
     if !is_found {
-        print_absent(image, query);
+        print_absent(image, query, has_longer(answer));
     }
     end_found(is_found);
 }
@@ -161,9 +162,7 @@ pub fn longest(image: &[u8], query: &[u8]) {
         refuse(refusal);
         return;
     }
-    let answer = lxtr_search::exact(image, part);
-    let value = answer.value;
-    match value {
+    match found_value(lookup(image, part)) {
         Found::Is(v) => {
             print_prefix(part, printed(part.len() / 4), v);
             say(FOUND);
@@ -173,15 +172,14 @@ pub fn longest(image: &[u8], query: &[u8]) {
 }
 
 pub fn probe(image: &[u8], query: &[u8]) {
-    let answer = lxtr_search::probe(image, query);
+    let answer = lookup(image, query);
     if answer.refusal != 0 {
         refuse(answer.refusal);
         return;
     }
     print_word(query);
-    let value = answer.value;
-    let is_found = print_value(value);
-    if answer.longer {
+    let is_found = print_value(found_value(answer));
+    if has_longer(answer) {
         say(LONGER);
     } else {
         say(NO_LONGER);

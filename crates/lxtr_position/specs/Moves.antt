@@ -13,11 +13,14 @@ use Rattle.lxtr_spec.specs.Labels.{maxLabels}
 use Rattle.lxtr_spec.specs.Image.{headerLength, slotCount, parent}
 use Rattle.lxtr_spec.specs.Refusals.{unlessRefused, headerRefusal}
 use Rattle.lxtr_spec.specs.Walks.{stepBy}
-use Rattle.lxtr_spec.specs.Positions.{TypingPosition, allWalked, slotBy, oneMore, maxTyped, pushed, oneLess, takenBack, isPlaced, MoveAnswer, moveAnswer, movedTo, reachedSlot, positionProbeOf}
-use Rattle.lxtr_spec.specs.Searches.{ProbeAnswer, probeAnswer, probeAt}
+use Rattle.lxtr_spec.specs.Positions.{TypingPosition, allWalked, slotBy, oneMore, maxTyped, pushed, oneLess, takenBack, isPlaced, MoveAnswer, moveAnswer, movedTo, reachedSlot, positionLookupOf}
+use Rattle.lxtr_spec.specs.Searches.{caseAt}
 use Rattle.lxtr_spec.specs.Answers.{found}
 use Rattle.lxtr_spec.specs.declared.Found.{Found}
 use Rattle.lxtr_spec.specs.declared.Found.the-variants.{Is, Nothing}
+use Rattle.lxtr_spec.specs.declared.Case.{Case}
+use Rattle.lxtr_spec.specs.declared.Case.the-variants.{Neither}
+use Rattle.lxtr_spec.specs.declared.Lookup.{Lookup}
 use lib.ListN.{length}
 use Rattle.lxtr_position.specs.Means.{positionMeans}
 use Rattle.lxtr_position.specs.declared.Position.{Position}
@@ -133,17 +136,17 @@ move-refused b p next r m header h e = rw (← header, stands r (cond (isPlaced 
 pub reached-below : (b : List ℕ) (p : Position) (f : Found) (n : ℕ) → found f ≡ reachedSlot b (positionMeans p) → f ≡ Is n → n < slotCount b
 reached-below b p f n answer h = let ((below, all), same) = reached-is b (positionMeans p) n .0 (found-is f n (reachedSlot b (positionMeans p)) answer h) in omega (arith, some-same same)
 
--- probe's answer a for a position; f is the slot that all labels reach
-module _ (b : List ℕ) (p : Position) (r : ℕ) (header : r ≡ headerRefusal b) (a : ProbeAnswer) where
-  pub position-refused : r ≢ 0 → a ≡ probeAnswer r none false → a ≡ positionProbeOf b (positionMeans p)
-  unfolding positionProbeOf
-  position-refused h e = rw (← header, stands r (probeAt b (reachedSlot b (positionMeans p))) (probeAnswer r none false) h) e
+-- the lookup a of a position; f is the slot that all labels reach
+module _ (b : List ℕ) (p : Position) (r : ℕ) (header : r ≡ headerRefusal b) where
+  pub position-refused : (a : Lookup) → r ≢ 0 → a ≡ record { refusal = r; case = Neither } → a ≡ positionLookupOf b (positionMeans p)
+  unfolding positionLookupOf
+  position-refused a h e = rw (← header, stands r (caseAt b (reachedSlot b (positionMeans p))) Neither h) e
 
   module _ (z : r ≡ 0) (f : Found) (place : found f ≡ reachedSlot b (positionMeans p)) where
-    pub position-nowhere : f ≡ Nothing → a ≡ probeAnswer 0 none false → a ≡ positionProbeOf b (positionMeans p)
-    unfolding positionProbeOf probeAt unlessRefused
-    position-nowhere h e = rw (sym header ∙ z, found-none f (reachedSlot b (positionMeans p)) place h) e
+    pub position-nowhere : (a : Lookup) → f ≡ Nothing → a ≡ record { refusal = 0; case = Neither } → a ≡ positionLookupOf b (positionMeans p)
+    unfolding positionLookupOf caseAt unlessRefused
+    position-nowhere a h e = rw (sym header ∙ z, found-none f (reachedSlot b (positionMeans p)) place h) e
 
-    pub position-reached : (n : ℕ) → f ≡ Is n → a ≡ probeAt b (some n) → a ≡ positionProbeOf b (positionMeans p)
-    unfolding positionProbeOf unlessRefused
-    position-reached n h e = rw (sym header ∙ z, found-is f n (reachedSlot b (positionMeans p)) place h) e
+    pub position-reached : (c : Case) (n : ℕ) → f ≡ Is n → c ≡ caseAt b (some n) → _≡_ {A = Lookup} (record { refusal = 0; case = c }) (positionLookupOf b (positionMeans p))
+    unfolding positionLookupOf unlessRefused
+    position-reached c n h e = rw (sym header ∙ z, found-is f n (reachedSlot b (positionMeans p)) place h, e)

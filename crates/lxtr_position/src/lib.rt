@@ -1,4 +1,4 @@
-// A typing position, for any bytes as image: it takes one more label or takes the last one back, and answers what probe would
+// A typing position, for any bytes as image: it takes one more label or takes the last one back, and answers what a lookup would
 // answer for the labels typed so far, without walking from slot 1 again. Any caller may use it; `numbers` is for `lxtr_c`.
 pub mod numbers; // the position as a number
 
@@ -6,19 +6,19 @@ ghost use mathlib.Core.Path.{_≡_};
 ghost use Prim.Native.Nat.{_≤_, _<_};
 ghost use lib.ListN.{length};
 ghost use Rattle.lxtr_spec.specs.Image.{headerLength, slotCount};
-ghost use Rattle.lxtr_spec.specs.Positions.{freshPosition, slotBy, pushed, takenBack, isPlaced, reachedSlot, moveAnswer, pushOf, backOf, positionProbeOf};
-ghost use Rattle.lxtr_spec.specs.Answers.{found, probeMeans};
+ghost use Rattle.lxtr_spec.specs.Positions.{freshPosition, slotBy, pushed, takenBack, isPlaced, reachedSlot, moveAnswer, pushOf, backOf, positionLookupOf};
+ghost use Rattle.lxtr_spec.specs.Answers.{found};
 ghost use Rattle.lxtr_laws.specs.Passed.{Passed};
 ghost use Rattle.lxtr_position.specs.Means.{positionMeans, movedMeans};
 use lxtr_header::header_refusal;
 use lxtr_image::nodes::parent_of;
 use lxtr_image::sections::slot_count;
-use lxtr_search::found_at;
-use lxtr_search::nothing_found;
+use lxtr_search::cases::case_at;
+use lxtr_search::cases::nothing_found;
 use lxtr_spec::Found;
+use lxtr_spec::Lookup;
 use lxtr_spec::MAX_LABELS;
 use lxtr_spec::MAX_TYPED;
-use lxtr_spec::Probe;
 use lxtr_walk::step_by;
 
 // How many labels were typed, how many of them were walked from slot 1 (all before the first that failed, at most MAX_LABELS), and
@@ -171,9 +171,9 @@ impl Position {
         self.taken_back(image).answered(0)
     }
 
-    // What probe would answer for the labels typed so far.
-    pub fn probe(self, image: &[u8]) -> Probe
-        ensures { λ r. ⌜ probeMeans r ≡ positionProbeOf (now (image .entry)) (positionMeans self) ⌝ }
+    // What a lookup of the labels typed so far would answer.
+    pub fn lookup(self, image: &[u8]) -> Lookup
+        ensures { λ r. ⌜ r ≡ positionLookupOf (now (image .entry)) (positionMeans self) ⌝ }
     {
         let refusal = header_refusal(image);
         if refusal != 0 {
@@ -182,6 +182,9 @@ impl Position {
         let Found::Is(n) = self.reached_slot(image) else {
             return nothing_found(0);
         };
-        found_at(image, n)
+        Lookup {
+            refusal: 0,
+            case: case_at(image, n),
+        }
     }
 }

@@ -9,7 +9,7 @@ use mathlib.Core.Path.{_≡_, refl, sym, ap, _∙_, subst}
 use mathlib.Core.Logic.{_≢_, _↔_, ⊎-elim, inr}
 use mathlib.Core.List.{List, [], _∷_, _++_, List·Memᴰ, List·Memᴰ·head, append-nil}
 use mathlib.Core.Option.{Option, some, none, Option·none-ne-some}
-use mathlib.Core.Bool.{Bool, true, false, _&&_, not, cond, true≢false}
+use mathlib.Core.Bool.{Bool, true, false, _&&_, not, cond, true≢false, false≢true}
 use lib.Dec.{ltb, eqb}
 use lib.ListN.{length, take, drop, getD, replicate}
 use lib.Seq.{take-append-seam}
@@ -17,16 +17,19 @@ use Rattle.lxtr_spec.specs.Labels.{labelsOf, Pair}
 use Rattle.lxtr_spec.specs.Image.{magic, slotCount, parent, valueNumber, labelOfCode}
 use Rattle.lxtr_spec.specs.Refusals.{usedCount, imageRefusal, isEnd, checkOf}
 use Rattle.lxtr_spec.specs.HighestValues.{HighestAnswer, highestOf}
-use Rattle.lxtr_spec.specs.Searches.{ExactAnswer, LongestAnswer, ProbeAnswer, exactOf, prefixesOf, longestOf, probeOf}
+use Rattle.lxtr_spec.specs.Searches.{LongestAnswer, caseValue, caseLonger, lookupOf, prefixesOf, longestOf}
 use Rattle.lxtr_spec.specs.Completions.{CompletionAnswer, completionOf}
 use Rattle.lxtr_spec.specs.KeyLists.{pairsOf}
 use Rattle.lxtr_spec.specs.Builds.{BuildAnswer, buildOf}
 use Rattle.lxtr_spec.specs.CodeMaps.{occurrences, frequency, mapOf}
 use Rattle.lxtr_spec.specs.FaultPlaces.{faultOf}
 use Rattle.lxtr_spec.specs.Sets.{PairSet, Prefix, Has, ImageOf}
-use Rattle.lxtr_spec.specs.Meaning.{Lists, FittingFront}
+use Rattle.lxtr_spec.specs.Meaning.{Longer, Lists, FittingFront}
 use Rattle.lxtr_spec.specs.Samples.{p1, p2, p3, p7, p8-check, p8-slot, p9-labels, p9-longer, p10, p11}
 use Rattle.lxtr_spec.specs.declared.Verdict.{Verdict}
+use Rattle.lxtr_spec.specs.declared.Case.{Case}
+use Rattle.lxtr_spec.specs.declared.Case.the-variants.{Neither, PrefixOnly, ExactOnly, ExactAndPrefix}
+use Rattle.lxtr_spec.specs.declared.Lookup.{Lookup}
 use Rattle.lxtr_spec.specs.declared.Prefixes.{Prefixes}
 use Rattle.lxtr_spec.specs.declared.Fault.{Fault}
 use Rattle.lxtr_spec.specs.declared.Fault.the-variants.{Entry}
@@ -37,6 +40,7 @@ use Rattle.lxtr_demands.specs.Builder.{ByFrequency, RefusedBy, few-words, list-
 use Rattle.lxtr_demands.specs.RightPlaces.{Right}
 use Rattle.lxtr_demands.specs.HighestValue.{HighestValue}
 use Rattle.lxtr_demands.specs.Rows.{computing}
+use Rattle.lxtr_demands.specs.Laws.Lookups.{Says, case-says}
 use Rattle.lxtr_demands.specs.Laws.Demand2.{demand2}
 use Rattle.lxtr_demands.specs.Laws.Demand3.{demand3}
 use Rattle.lxtr_demands.specs.Laws.Builder.{codes-by-frequency, demand2-builder}
@@ -141,9 +145,24 @@ or-1 : Option ℕ → ℕ
 or-1 none = 1
 or-1 (some v) = v
 
-exact-differs : exactOf p3 q6e .value ≡ exactOf p3 q61 .value → ⊥
+value-differs : caseValue (lookupOf p3 q6e .case) ≡ caseValue (lookupOf p3 q61 .case) → ⊥
 unfolding computing or-1
-exact-differs e = let z : _≡_ {A = ℕ} 0 1 = ap or-1 e in omega arith
+value-differs e = let z : _≡_ {A = ℕ} 0 1 = ap or-1 e in omega arith
+
+longer-differs : caseLonger (lookupOf p3 q6e .case) ≡ caseLonger (lookupOf p3 q6e61 .case) → ⊥
+unfolding computing
+longer-differs e = true≢false e
+
+-- the two last cases exchanged
+pub exchanged : Case → Case
+exchanged Neither = Neither
+exchanged PrefixOnly = PrefixOnly
+exchanged (ExactOnly v) = ExactAndPrefix v
+exchanged (ExactAndPrefix v) = ExactOnly v
+
+exchange-differs : exchanged (lookupOf p3 q6e .case) ≡ lookupOf p3 q6e .case → ⊥
+unfolding computing exchanged
+exchange-differs e = false≢true (ap caseLonger e)
 
 prefixes-differ : prefixesOf p3 q6e .count ≡ prefixesOf p3 q61 .count → ⊥
 unfolding computing
@@ -152,14 +171,6 @@ prefixes-differ e = let z : _≡_ {A = ℕ} 1 0 = e in omega arith
 longest-differs : length (longestOf p3 q6e .part) ≡ length (longestOf p3 q61 .part) → ⊥
 unfolding computing
 longest-differs e = let z : _≡_ {A = ℕ} 4 0 = e in omega arith
-
-probe-differs : probeOf p3 q6e .value ≡ probeOf p3 q61 .value → ⊥
-unfolding computing or-1
-probe-differs e = let z : _≡_ {A = ℕ} 0 1 = ap or-1 e in omega arith
-
-longer-differs : probeOf p3 q6e .longer ≡ probeOf p3 q6e61 .longer → ⊥
-unfolding computing
-longer-differs e = true≢false e
 
 -- the same answer to all queries of whole labels
 abbrev pub Constant : {A : Type 0} → (List ℕ → A) → Type 0
@@ -182,22 +193,10 @@ counts-differ : (completionOf p11 [] (blank 40) .answer .count ≡ 3) × (comple
 unfolding computing
 counts-differ = (refl, refl)
 
-same-answers : (x y : Bool) → (x ≡ true ↔ y ≡ true) → x ≡ y
-same-answers true true i = refl
-same-answers true false i = sym (i .0 refl)
-same-answers false true i = i .1 refl
-same-answers false false i = refl
-
-same-probes : (a b : ProbeAnswer) → a .refusal ≡ b .refusal → a .value ≡ b .value → a .longer ≡ b .longer → a ≡ b
-same-probes a b k v l =
-    subst (λ (n : ℕ). a ≡ record { refusal = n; value = b .value; longer = b .longer }) k
-    (subst (λ (m : Option ℕ). a ≡ record { refusal = a .refusal; value = m; longer = b .longer }) v
-    (subst (λ (n : Bool). a ≡ record { refusal = a .refusal; value = a .value; longer = n }) l refl))
-
 module _ (o : Operations) (meets : Demand2 o) where
   -- Over an image no other answer to a query of whole labels meets the demand.
-  pub only-exact : (b q : List ℕ) → IsImage b → length q % 4 ≡ 0 → o .exact b q ≡ exactOf b q
-  only-exact b q (d, image) whole = meets b d q image whole .searched .exact ∙ sym (demand2 b d q image whole .searched .exact)
+  pub only-lookup : (b q : List ℕ) → IsImage b → length q % 4 ≡ 0 → o .lookup b q ≡ lookupOf b q
+  only-lookup b q (d, image) whole = let (c, is) = demand2 b d q image whole .some-case in meets b d q image whole .lookup c is ∙ sym (demand2 b d q image whole .lookup c is)
 
   pub only-prefixes : (b q : List ℕ) → IsImage b → length q % 4 ≡ 0 → o .prefixes b q ≡ prefixesOf b q
   only-prefixes b q (d, image) whole =
@@ -209,15 +208,6 @@ module _ (o : Operations) (meets : Demand2 o) where
       let (n, is) = demand2 b d q image whole .searched .some-longest in
       meets b d q image whole .searched .longest n is ∙ sym (demand2 b d q image whole .searched .longest n is)
 
-  pub only-probe : (b q : List ℕ) → IsImage b → length q % 4 ≡ 0 → o .probe b q ≡ probeOf b q
-  only-probe b q (d, image) whole =
-      let mine = meets b d q image whole in
-      let theirs = demand2 b d q image whole in
-      let refusal : o .probe b q .refusal ≡ probeOf b q .refusal = mine .searched .probe-refusal ∙ sym (theirs .searched .probe-refusal) in
-      let value : o .probe b q .value ≡ probeOf b q .value = mine .searched .probe-value ∙ sym (theirs .searched .probe-value) in
-      let longer = same-answers (o .probe b q .longer) (probeOf b q .longer) (λ e. theirs .probe-longer .1 (mine .probe-longer .0 e), λ e. mine .probe-longer .1 (theirs .probe-longer .0 e)) in
-      same-probes (o .probe b q) (probeOf b q) refusal value longer
-
   pub only-complete : (b q room : List ℕ) → IsImage b → length q % 4 ≡ 0 → 5 ≤ length room → o .complete b q room ≡ completionOf b q room
   only-complete b q room (d, image) whole h =
       let answered = demand2 b d q image whole in
@@ -225,9 +215,12 @@ module _ (o : Operations) (meets : Demand2 o) where
       let (fit, front) = answered .some-front ps room h in
       meets b d q image whole .completion ps fit room are h front ∙ sym (answered .completion ps fit room are h front)
 
-  -- A search with a constant answer fails, on P4 to P6: exact, prefixes, longest, and both parts of probe.
-  pub constant-exact-fails : Constant (λ q. o .exact p3 q .value) → ⊥
-  constant-exact-fails = constant-fails (λ (a : ExactAnswer). a .value) (o .exact p3) (exactOf p3) (λ q. only-exact p3 q p3-is-image) q6e q61 refl refl exact-differs
+  -- A search with a constant answer fails, on P4 to P6: both parts of lookup, prefixes, longest.
+  pub constant-value-fails : Constant (λ q. caseValue (o .lookup p3 q .case)) → ⊥
+  constant-value-fails = constant-fails (λ (a : Lookup). caseValue (a .case)) (o .lookup p3) (lookupOf p3) (λ q. only-lookup p3 q p3-is-image) q6e q61 refl refl value-differs
+
+  pub constant-longer-fails : Constant (λ q. caseLonger (o .lookup p3 q .case)) → ⊥
+  constant-longer-fails = constant-fails (λ (a : Lookup). caseLonger (a .case)) (o .lookup p3) (lookupOf p3) (λ q. only-lookup p3 q p3-is-image) q6e q6e61 refl refl longer-differs
 
   pub constant-prefixes-fail : Constant (λ q. o .prefixes p3 q .count) → ⊥
   constant-prefixes-fail = constant-fails (λ (a : Prefixes). a .count) (o .prefixes p3) (prefixesOf p3) (λ q. only-prefixes p3 q p3-is-image) q6e q61 refl refl prefixes-differ
@@ -235,11 +228,22 @@ module _ (o : Operations) (meets : Demand2 o) where
   pub constant-longest-fails : Constant (λ q. length (o .longest p3 q .part)) → ⊥
   constant-longest-fails = constant-fails (λ (a : LongestAnswer). length (a .part)) (o .longest p3) (longestOf p3) (λ q. only-longest p3 q p3-is-image) q6e q61 refl refl longest-differs
 
-  pub constant-value-fails : Constant (λ q. o .probe p3 q .value) → ⊥
-  constant-value-fails = constant-fails (λ (a : ProbeAnswer). a .value) (o .probe p3) (probeOf p3) (λ q. only-probe p3 q p3-is-image) q6e q61 refl refl probe-differs
+  -- What the case says of longer keys and of the value is true. So these fail: prefix where only the end of the query's own key follows;
+  -- no prefix where longer keys exist; another value, or none, than the set has; and the two last cases exchanged, on P3.
+  case-true : (b : List ℕ) (d : PairSet) (q : List ℕ) → ImageOf b d → length q % 4 ≡ 0 → Says d (labelsOf q) (o .lookup b q .case)
+  case-true b d q image whole = let (c, is) = demand2 b d q image whole .some-case in rw (meets b d q image whole .lookup c is) (case-says d (labelsOf q) c is)
 
-  pub constant-longer-fails : Constant (λ q. o .probe p3 q .longer) → ⊥
-  constant-longer-fails = constant-fails (λ (a : ProbeAnswer). a .longer) (o .probe p3) (probeOf p3) (λ q. only-probe p3 q p3-is-image) q6e q6e61 refl refl longer-differs
+  pub prefix-by-its-end-fails : (b : List ℕ) (d : PairSet) (q : List ℕ) → ImageOf b d → length q % 4 ≡ 0 → (Longer d (labelsOf q) → ⊥) → caseLonger (o .lookup b q .case) ≡ true → ⊥
+  prefix-by-its-end-fails b d q image whole no-longer says = no-longer (case-true b d q image whole .longer .0 says)
+
+  pub longer-keys-missed-fail : (b : List ℕ) (d : PairSet) (q : List ℕ) → ImageOf b d → length q % 4 ≡ 0 → Longer d (labelsOf q) → caseLonger (o .lookup b q .case) ≡ false → ⊥
+  longer-keys-missed-fail b d q image whole l says = false≢true (sym says ∙ case-true b d q image whole .longer .1 l)
+
+  pub other-value-fails : (b : List ℕ) (d : PairSet) (q : List ℕ) → ImageOf b d → length q % 4 ≡ 0 → caseValue (o .lookup b q .case) ≢ d (labelsOf q) → ⊥
+  other-value-fails b d q image whole other = other (case-true b d q image whole .value)
+
+  pub exchanged-cases-fail : ((q : List ℕ) → length q % 4 ≡ 0 → o .lookup p3 q .case ≡ exchanged (lookupOf p3 q .case)) → ⊥
+  exchanged-cases-fail swaps = exchange-differs (sym (swaps q6e refl) ∙ ap (λ (a : Lookup). a .case) (only-lookup p3 q6e p3-is-image refl))
 
   -- A completion that writes nothing fails, on P11.
   pub idle-completion-fails : ((room : List ℕ) → 5 ≤ length room → o .complete p11 [] room .room ≡ room) → ⊥

@@ -3,13 +3,12 @@
 use Prim.Native.Nat.{ℕ, _+_, _-_}
 use mathlib.Core.Path.{refl}
 use mathlib.Core.List.{List, [], _∷_, _++_}
-use mathlib.Core.Option.{some, none}
-use mathlib.Core.Bool.{true, false}
 use lib.ListN.{replicate}
 use Rattle.lxtr_spec.specs.Labels.{maxLabels}
 use Rattle.lxtr_spec.specs.Positions.{TypingPosition, freshPosition, maxTyped}
 use Rattle.lxtr_spec.specs.Builds.{imageBytes}
 use Rattle.lxtr_spec.specs.Samples.{p3, p7, p9-longer}
+use Rattle.lxtr_spec.specs.declared.Case.the-variants.{Neither, PrefixOnly, ExactOnly, ExactAndPrefix}
 use Rattle.lxtr_demands.specs.TypingPositions.{Move, push, back}
 use Rattle.lxtr_demands.specs.Rows.{Example, typed, position-stays, AllHold, _and_, computing}
 
@@ -42,38 +41,38 @@ at s = record { slot = s; walked = 1; typed = 1 }
 unfoldable pub positions : List Example
 positions =
     -- n, a, x, and four times back
-    typed p3 [] none true 0x2_0000_0000
-    ∷ typed p3 (n ∷ []) (some 0) true 0x3_0000_0000
-    ∷ typed p3 (n ∷ a ∷ []) (some 1) false 0x1_0000_0001
-    ∷ typed p3 (n ∷ a ∷ x ∷ []) none false 0
-    ∷ typed p3 (n ∷ a ∷ x ∷ back ∷ []) (some 1) false 0x1_0000_0001
-    ∷ typed p3 (n ∷ a ∷ x ∷ back ∷ back ∷ []) (some 0) true 0x3_0000_0000
-    ∷ typed p3 (n ∷ a ∷ x ∷ back ∷ back ∷ back ∷ []) none true 0x2_0000_0000
-    ∷ typed p3 (n ∷ a ∷ x ∷ back ∷ back ∷ back ∷ back ∷ []) none true 0x2_0000_0000
+    typed p3 [] PrefixOnly 0x2_0000_0000
+    ∷ typed p3 (n ∷ []) (ExactAndPrefix 0) 0x3_0000_0000
+    ∷ typed p3 (n ∷ a ∷ []) (ExactOnly 1) 0x1_0000_0001
+    ∷ typed p3 (n ∷ a ∷ x ∷ []) Neither 0
+    ∷ typed p3 (n ∷ a ∷ x ∷ back ∷ []) (ExactOnly 1) 0x1_0000_0001
+    ∷ typed p3 (n ∷ a ∷ x ∷ back ∷ back ∷ []) (ExactAndPrefix 0) 0x3_0000_0000
+    ∷ typed p3 (n ∷ a ∷ x ∷ back ∷ back ∷ back ∷ []) PrefixOnly 0x2_0000_0000
+    ∷ typed p3 (n ∷ a ∷ x ∷ back ∷ back ∷ back ∷ back ∷ []) PrefixOnly 0x2_0000_0000
     -- after a label that isn't listed, and after one without a step, labels only count
-    ∷ typed p3 (x ∷ n ∷ []) none false 0 ∷ typed p3 (x ∷ n ∷ back ∷ []) none false 0 ∷ typed p3 (x ∷ n ∷ back ∷ back ∷ []) none true 0x2_0000_0000
-    ∷ typed p3 (n ∷ n ∷ a ∷ []) none false 0 ∷ typed p3 (n ∷ n ∷ a ∷ back ∷ back ∷ a ∷ []) (some 1) false 0x1_0000_0001
+    ∷ typed p3 (x ∷ n ∷ []) Neither 0 ∷ typed p3 (x ∷ n ∷ back ∷ []) Neither 0 ∷ typed p3 (x ∷ n ∷ back ∷ back ∷ []) PrefixOnly 0x2_0000_0000
+    ∷ typed p3 (n ∷ n ∷ a ∷ []) Neither 0 ∷ typed p3 (n ∷ n ∷ a ∷ back ∷ back ∷ a ∷ []) (ExactOnly 1) 0x1_0000_0001
     -- taking back at no labels changes nothing
-    ∷ typed p3 (back ∷ n ∷ []) (some 0) true 0x3_0000_0000
+    ∷ typed p3 (back ∷ n ∷ []) (ExactAndPrefix 0) 0x3_0000_0000
     -- P7, which the check refuses, is answered
-    ∷ typed p7 (n ∷ a ∷ []) (some 1) false 0x1_0000_0001
+    ∷ typed p7 (n ∷ a ∷ []) (ExactOnly 1) 0x1_0000_0001
     -- the limit of a key, from both sides
-    ∷ typed cycle (pressed maxLabels 0) (some 7) true 0x3_0000_0007
-    ∷ typed cycle (pressed (maxLabels + 1) 0) none false 0
-    ∷ typed cycle (pressed (maxLabels + 1) 1) (some 7) true 0x3_0000_0007
+    ∷ typed cycle (pressed maxLabels 0) (ExactAndPrefix 7) 0x3_0000_0007
+    ∷ typed cycle (pressed (maxLabels + 1) 0) Neither 0
+    ∷ typed cycle (pressed (maxLabels + 1) 1) (ExactAndPrefix 7) 0x3_0000_0007
     -- the number of labels that count, from both sides: one more is not counted
-    ∷ typed cycle (pressed maxTyped (maxTyped - maxLabels)) (some 7) true 0x3_0000_0007
-    ∷ typed cycle (pressed maxTyped (maxTyped - maxLabels - 1)) none false 0
-    ∷ typed cycle (pressed (maxTyped + 1) (maxTyped - maxLabels)) (some 7) true 0x3_0000_0007
+    ∷ typed cycle (pressed maxTyped (maxTyped - maxLabels)) (ExactAndPrefix 7) 0x3_0000_0007
+    ∷ typed cycle (pressed maxTyped (maxTyped - maxLabels - 1)) Neither 0
+    ∷ typed cycle (pressed (maxTyped + 1) (maxTyped - maxLabels)) (ExactAndPrefix 7) 0x3_0000_0007
     -- the number of labels says when the root is reached, not the slot: at slot 1, too, a label is taken back, and then one more can be
     -- walked
-    ∷ typed cycle (pressed maxLabels 1 ++ a ∷ []) (some 7) true 0x3_0000_0007
-    ∷ typed cycle (pressed maxLabels 1 ++ a ∷ a ∷ []) none false 0
-    ∷ typed cycle (pressed 3 2 ++ x ∷ back ∷ back ∷ []) (some 7) true 0x3_0000_0007
-    ∷ typed cycle (pressed 3 4) (some 7) true 0x3_0000_0007
+    ∷ typed cycle (pressed maxLabels 1 ++ a ∷ []) (ExactAndPrefix 7) 0x3_0000_0007
+    ∷ typed cycle (pressed maxLabels 1 ++ a ∷ a ∷ []) Neither 0
+    ∷ typed cycle (pressed 3 2 ++ x ∷ back ∷ back ∷ []) (ExactAndPrefix 7) 0x3_0000_0007
+    ∷ typed cycle (pressed 3 4) (ExactAndPrefix 7) 0x3_0000_0007
     -- slot 0 is a place like any other; a second label leads from there to slot 2, whose parent is 0
-    ∷ typed to-zero (a ∷ []) none true 0x2_0000_0000 ∷ typed to-zero (a ∷ a ∷ []) none false 0
-    ∷ typed to-zero (a ∷ a ∷ back ∷ []) none true 0x2_0000_0000 ∷ typed to-zero (a ∷ a ∷ back ∷ back ∷ []) none false 0
+    ∷ typed to-zero (a ∷ []) PrefixOnly 0x2_0000_0000 ∷ typed to-zero (a ∷ a ∷ []) Neither 0
+    ∷ typed to-zero (a ∷ a ∷ back ∷ []) PrefixOnly 0x2_0000_0000 ∷ typed to-zero (a ∷ a ∷ back ∷ back ∷ []) Neither 0
     -- P3 has the slots 0 to 6
     ∷ position-stays p3 (at 7) 0 ∷ position-stays p3 (at 0xFFFFFFFF) 0
     -- refused: no bytes, a header whose numbers are all the largest, one byte too many

@@ -9,13 +9,14 @@ use Rattle.lxtr_spec.specs.Labels.{lengthCount}
 use Rattle.lxtr_spec.specs.Refusals.{unlessRefused, checkOf}
 use Rattle.lxtr_spec.specs.FaultPlaces.{faultOf}
 use Rattle.lxtr_spec.specs.HighestValues.{highestOf}
-use Rattle.lxtr_spec.specs.Searches.{searchRefusal, exactOf, prefixesOf, longestLength, probeOf}
-use Rattle.lxtr_spec.specs.Positions.{TypingPosition, freshPosition, pushOf, backOf, positionProbeOf}
+use Rattle.lxtr_spec.specs.Searches.{searchRefusal, caseValue, caseLonger, lookupOf, prefixesOf, longestLength}
+use Rattle.lxtr_spec.specs.Positions.{TypingPosition, freshPosition, pushOf, backOf, positionLookupOf}
 use Rattle.lxtr_spec.specs.Reasons.{whyOf, reasonNumber, reasonPlace}
 use Rattle.lxtr_spec.specs.Completions.{completionOf}
 use Rattle.lxtr_spec.specs.Builds.{buildOf}
 use Rattle.lxtr_spec.specs.declared.Fault.{Fault}
 use Rattle.lxtr_spec.specs.declared.Fault.the-variants.{Nowhere, Label, Slot, Offset, Entry, Unlisted, Childless, RootBase, Unreachable}
+use Rattle.lxtr_spec.specs.declared.Lookup.{Lookup}
 use Rattle.lxtr_spec.specs.declared.Reason.{Reason}
 use Rattle.lxtr_spec.specs.declared.Prefixes.{Prefixes}
 use Rattle.lxtr_spec.specs.declared.Completion.{Completion}
@@ -35,11 +36,19 @@ valueNumbered k more (some v) = hostNumber k more true v
 unfoldable pub checkNumber : List ℕ → ℕ
 checkNumber b = hostNumber (checkOf b .refusal) false false (checkOf b .pairs)
 
+-- Document 02, request 6: C keeps its exact and probe with the numbers they answered. (Both are numbers of a lookup: exact's has its
+-- value, probe's also whether longer keys exist.)
+unfoldable pub exactNumbered : Lookup → ℕ
+exactNumbered r = valueNumbered (r .refusal) false (caseValue (r .case))
+
+unfoldable pub probeNumbered : Lookup → ℕ
+probeNumbered r = valueNumbered (r .refusal) (caseLonger (r .case)) (caseValue (r .case))
+
 unfoldable pub exactNumber : List ℕ → List ℕ → ℕ
-exactNumber b q = valueNumbered (exactOf b q .refusal) false (exactOf b q .value)
+exactNumber b q = exactNumbered (lookupOf b q)
 
 unfoldable pub probeNumber : List ℕ → List ℕ → ℕ
-probeNumber b q = valueNumbered (probeOf b q .refusal) (probeOf b q .longer) (probeOf b q .value)
+probeNumber b q = probeNumbered (lookupOf b q)
 
 unfoldable pub longestNumber : List ℕ → List ℕ → ℕ
 longestNumber b q = hostNumber (searchRefusal b q) false false (longestLength b q)
@@ -134,7 +143,7 @@ unfoldable pub positionOf : ℕ → TypingPosition
 positionOf n = record { slot = n % 2 ^ 32; walked = n / 2 ^ 32 % 2 ^ 16; typed = n / 2 ^ 48 }
 
 -- Push and take back answer the next position, or after a refusal the one that was passed. The probe of a position answers the number
--- that probe answers for the labels typed so far.
+-- that C's probe answers for the labels typed so far.
 unfoldable pub hostFresh : ℕ
 hostFresh = positionNumber freshPosition
 
@@ -145,5 +154,4 @@ unfoldable pub hostBackOf : List ℕ → ℕ → ℕ
 hostBackOf b n = positionNumber (backOf b (positionOf n) .position)
 
 unfoldable pub positionProbeNumber : List ℕ → ℕ → ℕ
-positionProbeNumber b n =
-    valueNumbered (positionProbeOf b (positionOf n) .refusal) (positionProbeOf b (positionOf n) .longer) (positionProbeOf b (positionOf n) .value)
+positionProbeNumber b n = probeNumbered (positionLookupOf b (positionOf n))

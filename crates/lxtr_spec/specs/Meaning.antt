@@ -1,15 +1,17 @@
--- What each search answers in terms of the set of pairs d of an image, where xs are the labels of the query. Exact gives d xs.
+-- What each search answers in terms of the set of pairs d of an image, where xs are the labels of the query.
 use Prim.Native.Nat.{ℕ, _≤_, _<_}
 use mathlib.Core.Path.{_≡_}
 use mathlib.Core.Logic.{_⊎_}
 use mathlib.Core.List.{List, [], _∷_, _++_, map, List·Memᴰ}
-use mathlib.Core.Option.{Option, some, Option·getD}
+use mathlib.Core.Option.{Option, some, none, Option·getD}
 use mathlib.Core.Bool.{Bool, true}
 use lib.ListN.{length}
 use Rattle.lxtr_spec.specs.Labels.{comesBefore, Pair}
 use Rattle.lxtr_spec.specs.Image.{codeOf}
 use Rattle.lxtr_spec.specs.Completions.{roomFor}
 use Rattle.lxtr_spec.specs.Sets.{PairSet, Has}
+use Rattle.lxtr_spec.specs.declared.Case.{Case}
+use Rattle.lxtr_spec.specs.declared.Case.the-variants.{Neither, PrefixOnly, ExactOnly, ExactAndPrefix}
 
 -- each member comes before the next one, by the order R
 unfoldable pub Ordered : {A : Type 0} → (A → A → Type 0) → List A → Type 0
@@ -36,12 +38,20 @@ pub record LongestIn (d : PairSet) (xs : List ℕ) (n : ℕ) : Type 0 where
   pub most : (p r : List ℕ) (v : ℕ) → xs ≡ p ++ r → Has d p v → length p ≤ n
   pub is : (n ≡ 0) ⊎ ((p : List ℕ) × (r : List ℕ) × (v : ℕ) × (xs ≡ p ++ r) × (length p ≡ n) × Has d p v)
 
--- Probe gives d xs, and says whether longer keys exist: some key of the set begins with the labels and is longer.
+-- Longer keys exist: the labels are a proper front part of a key of the set.
 pub record Longer (d : PairSet) (xs : List ℕ) : Type 0 where
   pub next : ℕ
   pub rest : List ℕ
   pub value : ℕ
   pub is : Has d (xs ++ next ∷ rest) value
+
+-- Lookup, by its four cases. Nothing: no key begins with the labels. Prefix: they are a proper front part of a key, and no key. Exact:
+-- they are a key with this value, and no proper front part of one. Exact and prefix: they are both.
+abbrev pub CaseIn : PairSet → List ℕ → Case → Type 0
+CaseIn d xs Neither = (r : List ℕ) (v : ℕ) → Has d (xs ++ r) v → ⊥
+CaseIn d xs PrefixOnly = Longer d xs × (d xs ≡ none)
+CaseIn d xs (ExactOnly v) = Has d xs v × (Longer d xs → ⊥)
+CaseIn d xs (ExactAndPrefix v) = Has d xs v × Longer d xs
 
 -- Code order compares keys by their labels' codes, one after the other, a proper prefix first. (Every label of a key is listed, so
 -- the 0 for a missing code is never used.)

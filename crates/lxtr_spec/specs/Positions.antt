@@ -1,14 +1,16 @@
--- Document 02, request 3: a typing position, for all images and positions.
+-- Document 02, request 3: a typing position, for all images and positions. Where it says probe, request 6 has put the lookup.
 use Prim.Native.Nat.{ℕ, _+_, _-_}
 use mathlib.Core.List.{List}
 use mathlib.Core.Option.{Option, some, none}
-use mathlib.Core.Bool.{Bool, false, _&&_, cond}
+use mathlib.Core.Bool.{Bool, _&&_, cond}
 use lib.Dec.{ltb, eqb}
 use Rattle.lxtr_spec.specs.Labels.{maxLabels}
 use Rattle.lxtr_spec.specs.Image.{slotCount, parent}
 use Rattle.lxtr_spec.specs.Refusals.{unlessRefused, headerRefusal}
 use Rattle.lxtr_spec.specs.Walks.{stepBy}
-use Rattle.lxtr_spec.specs.Searches.{ProbeAnswer, probeAnswer, probeAt}
+use Rattle.lxtr_spec.specs.Searches.{caseAt}
+use Rattle.lxtr_spec.specs.declared.Case.the-variants.{Neither}
+use Rattle.lxtr_spec.specs.declared.Lookup.{Lookup}
 
 -- A position takes one more label or takes the last one back, hands back the new position, and answers as probe would for the labels
 -- typed so far. It is three numbers: how many labels were typed, how many of them were walked from slot 1 (all before the first that
@@ -80,9 +82,11 @@ backOf b p = let next = takenBack b p in movedTo b p next
 unfoldable pub reachedSlot : List ℕ → TypingPosition → Option ℕ
 reachedSlot b p = cond (isPlaced b p && allWalked p) (some (p .slot)) none
 
--- what probe would answer for the labels typed so far
-unfoldable pub positionProbeOf : List ℕ → TypingPosition → ProbeAnswer
-positionProbeOf b p = let answer = probeAt b (reachedSlot b p) in unlessRefused (headerRefusal b) answer (probeAnswer (headerRefusal b) none false)
+-- what a lookup would answer for the labels typed so far
+unfoldable pub positionLookupOf : List ℕ → TypingPosition → Lookup
+positionLookupOf b p =
+    let case = caseAt b (reachedSlot b p) in
+    record { refusal = headerRefusal b; case = unlessRefused (headerRefusal b) case Neither }
 
 -- For a position that no calls give, and in another image, document 02 leaves the answer free, unless its place isn't below N. The
 -- definitions answer there too.

@@ -1,14 +1,17 @@
--- Document 01, "The searches": exact, prefixes, longest and probe, for all bytes.
+-- Document 01, "The searches", and document 02, request 6: lookup, prefixes and longest, for all bytes.
 use Prim.Native.Nat.{ℕ, _+_, _*_, _-_, _%_}
 use mathlib.Core.List.{List, [], _∷_, _++_, map}
 use mathlib.Core.Option.{Option, some, none}
-use mathlib.Core.Bool.{Bool, false, not}
+use mathlib.Core.Bool.{Bool, true, false, not}
 use lib.ListN.{length, take, replicate}
 use lib.Dec.{eqb}
 use Rattle.lxtr_spec.specs.Ranges.{concatFrom}
 use Rattle.lxtr_spec.specs.Labels.{maxLabels, lengthCount, labelsOf}
 use Rattle.lxtr_spec.specs.Refusals.{refuseIf, firstRefusal, unlessRefused, headerRefusal}
-use Rattle.lxtr_spec.specs.Walks.{walkWithin, valueAt, valueReached, valueOf, longerAt}
+use Rattle.lxtr_spec.specs.Walks.{walkWithin, valueAt, valueOf, longerAt}
+use Rattle.lxtr_spec.specs.declared.Case.{Case}
+use Rattle.lxtr_spec.specs.declared.Case.the-variants.{Neither, PrefixOnly, ExactOnly, ExactAndPrefix}
+use Rattle.lxtr_spec.specs.declared.Lookup.{Lookup}
 use Rattle.lxtr_spec.specs.declared.Prefixes.{Prefixes}
 
 -- All first test 1 to 8, then give 13 if the query length is no multiple of four.
@@ -20,18 +23,46 @@ searchRefusal b q = firstRefusal (headerRefusal b) (queryRefusal q)
 
 -- Refusals answer zero, no value, an empty part, and write nothing in lent room. Each answer below says so by `unlessRefused`.
 
--- Exact: the value number or none; beyond 64 labels, none.
-pub record ExactAnswer : Type 0 where
-  pub refusal : ℕ
-  pub value : Option ℕ
+-- Document 02, request 6: merge them (exact and probe) into one operation with four cases: nothing, prefix, exact, exact and prefix,
+-- the last two with the value.
+-- (of each case, its value or none; ..
+unfoldable pub caseValue : Case → Option ℕ
+caseValue Neither = none
+caseValue PrefixOnly = none
+caseValue (ExactOnly v) = some v
+caseValue (ExactAndPrefix v) = some v
 
-unfoldable pub exactValue : List ℕ → List ℕ → Option ℕ
-exactValue b xs = valueReached b (walkWithin b xs)
+-- .. whether longer keys exist; ..
+unfoldable pub caseLonger : Case → Bool
+caseLonger Neither = false
+caseLonger PrefixOnly = true
+caseLonger (ExactOnly v) = false
+caseLonger (ExactAndPrefix v) = true
 
-unfoldable pub exactOf : List ℕ → List ℕ → ExactAnswer
-exactOf b q =
-    let value = exactValue b (labelsOf q) in
-    record { refusal = searchRefusal b q; value = unlessRefused (searchRefusal b q) value none }
+-- .. and the case that has these two)
+unfoldable pub caseOf : Option ℕ → Bool → Case
+caseOf none false = Neither
+caseOf none true = PrefixOnly
+caseOf (some v) false = ExactOnly v
+caseOf (some v) true = ExactAndPrefix v
+
+-- Document 01 of both: value or none, and whether longer keys exist. If the walk fails or the query passes 64 labels: none, no.
+unfoldable pub caseAt : List ℕ → Option ℕ → Case
+caseAt b none = Neither
+caseAt b (some n) = caseOf (valueAt b n) (longerAt b n)
+
+-- the case of the labels xs, and its value
+unfoldable pub caseFor : List ℕ → List ℕ → Case
+caseFor b xs = caseAt b (walkWithin b xs)
+
+unfoldable pub valueFor : List ℕ → List ℕ → Option ℕ
+valueFor b xs = caseValue (caseFor b xs)
+
+-- Refusals: 1 to 8 and 13 as before, beside the cases.
+unfoldable pub lookupOf : List ℕ → List ℕ → Lookup
+lookupOf b q =
+    let case = caseFor b (labelsOf q) in
+    record { refusal = searchRefusal b q; case = unlessRefused (searchRefusal b q) case Neither }
 
 -- Prefixes: length and value, shortest first, of each prefix of xs to which f gives a value. matchAt gives the match of length k, if any.
 unfoldable pub lengthMatch : ℕ → Option ℕ → List (ℕ × ℕ)
@@ -81,19 +112,3 @@ longestLength b q = let longest = lastLength (prefixMatches b q) in unlessRefuse
 
 unfoldable pub longestOf : List ℕ → List ℕ → LongestAnswer
 longestOf b q = record { refusal = searchRefusal b q; part = take (4 * longestLength b q) q }
-
--- Probe: value or none, and whether longer keys exist. If the walk fails or the query passes 64 labels: none, no.
-pub record ProbeAnswer : Type 0 where
-  pub refusal : ℕ
-  pub value : Option ℕ
-  pub longer : Bool
-
-unfoldable pub probeAnswer : ℕ → Option ℕ → Bool → ProbeAnswer
-probeAnswer k v l = record { refusal = k; value = v; longer = l }
-
-unfoldable pub probeAt : List ℕ → Option ℕ → ProbeAnswer
-probeAt b none = probeAnswer 0 none false
-probeAt b (some n) = probeAnswer 0 (valueAt b n) (longerAt b n)
-
-unfoldable pub probeOf : List ℕ → List ℕ → ProbeAnswer
-probeOf b q = let answer = probeAt b (walkWithin b (labelsOf q)) in unlessRefused (searchRefusal b q) answer (probeAnswer (searchRefusal b q) none false)

@@ -1,5 +1,5 @@
 // The answer types, the limits and the refusal numbers. Their meaning is defined in specs/, which holds document 01, with requests 2,
-// 3 and 5 of document 02, as definitions.
+// 3, 5 and 6 of document 02, as definitions.
 pub mod refusals; // the number of each refusal
 
 // The largest number of labels in a key, and the number of possible lengths that follows from it.
@@ -64,10 +64,22 @@ pub struct Highest {
     pub value: Found,
 }
 
-// The exact match.
-pub struct Exact {
+// What a query is to the keys: the four cases of a lookup.
+pub enum Case {
+    // nothing: neither a key nor the beginning of one
+    Neither,
+    // prefix: no key, but longer keys begin with it
+    PrefixOnly,
+    // exact: a key, with this value, and no longer key begins with it
+    ExactOnly(u32),
+    // exact and prefix: a key, with this value, and longer keys begin with it
+    ExactAndPrefix(u32),
+}
+
+// The lookup: the case, or Neither after a refusal.
+pub struct Lookup {
     pub refusal: u8,
-    pub value: Found,
+    pub case: Case,
 }
 
 // The prefixes of a query that are keys, shortest first: `count` places of each array are filled, the others are zero.
@@ -76,13 +88,6 @@ pub struct Prefixes {
     pub count: u32,
     pub lengths: [u32; LENGTH_COUNT],
     pub values: [u32; LENGTH_COUNT],
-}
-
-// The probe: the value, and whether longer keys exist.
-pub struct Probe {
-    pub refusal: u8,
-    pub value: Found,
-    pub longer: bool,
 }
 
 // Why a query is found or not. A place counts the labels of the query from 0: it is the first at which the walk stops.

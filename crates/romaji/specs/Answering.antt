@@ -14,11 +14,12 @@ use lib.Dec.{leb}
 use borrow.Author.Tests.{leb-true, leb-false, lt-ltb, le-ltb}
 use Rattle.lxtr_spec.specs.Numbers.{beWords}
 use Rattle.lxtr_spec.specs.Refusals.{refuseIf, firstRefusal, unlessRefused}
-use Rattle.lxtr_spec.specs.Searches.{exactOf}
+use Rattle.lxtr_spec.specs.Searches.{caseValue, lookupOf}
 use Rattle.lxtr_spec.specs.HighestValues.{highestOf}
-use Rattle.lxtr_spec.specs.Answers.{found, exactMeans, highestMeans}
+use Rattle.lxtr_spec.specs.Answers.{found, highestMeans}
+use Rattle.lxtr_spec.specs.declared.Found.{Found}
 use Rattle.lxtr_spec.specs.declared.Found.the-variants.{Is, Nothing}
-use Rattle.lxtr_spec.specs.declared.Exact.{Exact}
+use Rattle.lxtr_spec.specs.declared.Lookup.{Lookup}
 use Rattle.lxtr_spec.specs.declared.Highest.{Highest}
 use Rattle.lxtr_laws.specs.Tests.{not-is-true, not-is-false}
 use Rattle.lxtr_laws.specs.RefusalChains.{none-first, none-refused, first-stands, stands}
@@ -35,15 +36,15 @@ use Rattle.romaji.specs.Writing.{Converts}
 
 -- ---- refusals of image and table
 
--- e is what `exact` answered for the empty query
-module _ (b : List ℕ) (e : Exact) (known : exactMeans e ≡ exactOf b []) where
-  pub empty-found : (v : ℕ) → e .value ≡ Is v → true ≡ hasEmptyKey b
+-- e is what `lookup` answered for the empty query, and f its value
+module _ (b : List ℕ) (e : Lookup) (known : e ≡ lookupOf b []) (f : Found) (value : found f ≡ caseValue (e .case)) where
+  pub empty-found : (v : ℕ) → f ≡ Is v → true ≡ hasEmptyKey b
   unfolding hasEmptyKey isValue
-  empty-found v h = rw (← known, h)
+  empty-found v h = rw (← known, ← value, h)
 
-  pub empty-missing : e .value ≡ Nothing → false ≡ hasEmptyKey b
+  pub empty-missing : f ≡ Nothing → false ≡ hasEmptyKey b
   unfolding hasEmptyKey isValue
-  empty-missing h = rw (← known, h)
+  empty-missing h = rw (← known, ← value, h)
 
 -- 24 and 25, for the highest value o
 abbrev pub laterRefusal : List ℕ → List ℕ → Option ℕ → ℕ

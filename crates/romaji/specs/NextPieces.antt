@@ -14,12 +14,11 @@ use mir.Syntax.{w64}
 use borrow.Author.Tests.{leb-true}
 use Rattle.lxtr_spec.specs.Numbers.{beBytes, beWords}
 use Rattle.lxtr_spec.specs.Labels.{maxLabels, labelsOf}
-use Rattle.lxtr_spec.specs.Searches.{LongestAnswer, ExactAnswer, ProbeAnswer, exactOf, longestLength, longestOf, probeOf}
-use Rattle.lxtr_spec.specs.Answers.{found, exactMeans, probeMeans}
+use Rattle.lxtr_spec.specs.Searches.{LongestAnswer, caseValue, caseLonger, lookupOf, longestLength, longestOf}
+use Rattle.lxtr_spec.specs.Answers.{found}
 use Rattle.lxtr_spec.specs.declared.Found.{Found}
 use Rattle.lxtr_spec.specs.declared.Found.the-variants.{Is, Nothing}
-use Rattle.lxtr_spec.specs.declared.Exact.{Exact}
-use Rattle.lxtr_spec.specs.declared.Probe.{Probe}
+use Rattle.lxtr_spec.specs.declared.Lookup.{Lookup}
 use Rattle.lxtr_laws.specs.ByteOrders.{big, words-size, words-one}
 use Rattle.lxtr_laws.specs.Overlays.{over}
 use Rattle.romaji_spec.specs.KanaTables.{textBytes, kanaOf}
@@ -38,20 +37,23 @@ sizeBy m (some v) = m / 4
 
 -- what was found: n labels with the value o
 pub record Looked (b q : List ℕ) (n : ℕ) (o : Option ℕ) : Type 0 where
-  pub value : o ≡ exactOf b (longestOf b q .part) .value
+  pub value : o ≡ caseValue (lookupOf b (longestOf b q .part) .case)
   pub size : n ≡ sizeBy (length (longestOf b q .part)) o
   pub moves : 1 ≤ n
 
--- part is what `longest` handed back, f what `exact` gave for it
+-- part is what `longest` handed back, e what `lookup` answered for it, and f its value
 module _ (b q : List ℕ) (no-empty : hasEmptyKey b ≡ false) (whole : length q % 4 ≡ 0) (k : ℕ) (part : List ℕ) (longest : _≡_ {A = LongestAnswer} (record { refusal = k; part = part }) (longestOf b q))
-    (e : Exact) (exact : exactMeans e ≡ exactOf b part) where
+    (e : Lookup) (known : e ≡ lookupOf b part) (f : Found) (value : found f ≡ caseValue (e .case)) where
   is-part : part ≡ longestOf b q .part
   is-part = ap (λ (a : LongestAnswer). a .part) longest
 
-  is-value : found (e .value) ≡ exactOf b (longestOf b q .part) .value
-  is-value = ap (λ (a : ExactAnswer). a .value) exact ∙ ap (λ (p : List ℕ). exactOf b p .value) is-part
+  value-known : found f ≡ caseValue (lookupOf b part .case)
+  value-known = value ∙ ap (λ (a : Lookup). caseValue (a .case)) known
 
-  pub looked-none : e .value ≡ Nothing → Looked b q 1 none
+  is-value : found f ≡ caseValue (lookupOf b (longestOf b q .part) .case)
+  is-value = value-known ∙ ap (λ (p : List ℕ). caseValue (lookupOf b p .case)) is-part
+
+  pub looked-none : f ≡ Nothing → Looked b q 1 none
   looked-none h = record { value = sym (ap found h) ∙ is-value; size = refl; moves = omega arith }
 
   -- the part is whole labels, as the query is
@@ -59,47 +61,47 @@ module _ (b q : List ℕ) (no-empty : hasEmptyKey b ≡ false) (whole : length q
   unfolding longestOf
   part-size h = omega (arith, ap length is-part, length-take (4 * longestLength b q) q)
 
-  pub looked-some : (v : ℕ) → e .value ≡ Is v → Looked b q (length part / 4) (some v)
+  pub looked-some : (v : ℕ) → f ≡ Is v → Looked b q (length part / 4) (some v)
   unfolding hasEmptyKey isValue
   looked-some v h = record {
     value = sym (ap found h) ∙ is-value;
     size = ap (λ (p : List ℕ). length p / 4) is-part;
-    moves = go part refl (ap (λ (a : ExactAnswer). a .value) exact);
+    moves = go part refl value-known;
   }
     where
-      go : (p : List ℕ) → part ≡ p → found (e .value) ≡ exactOf b part .value → 1 ≤ length part / 4
-      go [] z f = absurd (true≢false (sym (ap isValue (sym (rw (z, h) at f))) ∙ no-empty))
-      go (x ∷ p) z f = let s : 1 ≤ length part = rw z (omega arith) in omega (arith, part-size s)
+      go : (p : List ℕ) → part ≡ p → found f ≡ caseValue (lookupOf b part .case) → 1 ≤ length part / 4
+      go [] z g = absurd (true≢false (sym (ap isValue (sym (rw (z, h) at g))) ∙ no-empty))
+      go (x ∷ p) z g = let s : 1 ≤ length part = rw z (omega arith) in omega (arith, part-size s)
 
 -- ---- the piece at the front of a query, and at a place of the text
 
 -- length and value of the piece; length 0: it is kept back
 pub data FrontIs (keeping : Bool) (b q : List ℕ) : ℕ → Option ℕ → Type 0 where
-  waits : (keeping && probeOf b q .longer) ≡ true → FrontIs keeping b q 0 none
-  looked : {n : ℕ} {o : Option ℕ} → (keeping && probeOf b q .longer) ≡ false → Looked b q n o → FrontIs keeping b q n o
+  waits : (keeping && caseLonger (lookupOf b q .case)) ≡ true → FrontIs keeping b q 0 none
+  looked : {n : ℕ} {o : Option ℕ} → (keeping && caseLonger (lookupOf b q .case)) ≡ false → Looked b q n o → FrontIs keeping b q n o
 
 pub data NextIs (keeping : Bool) (b r : List ℕ) : ℕ → Option ℕ → Type 0 where
   stays : Keeps keeping b r → NextIs keeping b r 0 none
   goes : {n : ℕ} {o : Option ℕ} → GoesOn keeping b r → 1 ≤ n → n ≡ length (pieceText (pieceAt b r)) → o ≡ matchedValue b r → NextIs keeping b r n o
 
--- without `keeping` nothing waits; p is what `probe` answered
+-- without `keeping` nothing waits; a is what `lookup` answered, and l whether longer keys exist
 module _ (keeping : Bool) (b q : List ℕ) where
-  pub never-waits : not keeping ≡ true → false ≡ (keeping && probeOf b q .longer)
+  pub never-waits : not keeping ≡ true → false ≡ (keeping && caseLonger (lookupOf b q .case))
   never-waits h = go keeping h
     where
-      go : (t : Bool) → not t ≡ true → false ≡ (t && probeOf b q .longer)
+      go : (t : Bool) → not t ≡ true → false ≡ (t && caseLonger (lookupOf b q .case))
       go false e = refl
       go true e = absurd (true≢false (sym e))
 
-  pub probe-waits : (p : Probe) → not keeping ≡ false → probeMeans p ≡ probeOf b q → p .longer ≡ (keeping && probeOf b q .longer)
-  probe-waits p h e = go keeping h
+  pub longer-waits : (a : Lookup) (l : Bool) → not keeping ≡ false → a ≡ lookupOf b q → l ≡ caseLonger (a .case) → l ≡ (keeping && caseLonger (lookupOf b q .case))
+  longer-waits a l h known e = go keeping h
     where
-      go : (t : Bool) → not t ≡ false → p .longer ≡ (t && probeOf b q .longer)
-      go true f = ap (λ (a : ProbeAnswer). a .longer) e
+      go : (t : Bool) → not t ≡ false → l ≡ (t && caseLonger (lookupOf b q .case))
+      go true f = e ∙ ap (λ (r : Lookup). caseLonger (r .case)) known
       go false f = absurd (true≢false f)
 
   -- w is what the code's test returned
-  module _ (w : Bool) (known : w ≡ (keeping && probeOf b q .longer)) where
+  module _ (w : Bool) (known : w ≡ (keeping && caseLonger (lookupOf b q .case))) where
     pub front-waits : w ≡ true → FrontIs keeping b q 0 none
     front-waits h = waits (sym known ∙ h)
 
@@ -126,14 +128,14 @@ module _ (b r : List ℕ) where
   few-matched = omega (arith, length-take (4 * longestLength b query) query, words-size big (take maxLabels r), length-take maxLabels r)
 
   -- a text of which more is left than can be kept does not grow; otherwise all of it is looked at
-  grows-by : (keeping : Bool) → (keeping && couldGrow b r) ≡ ((keeping && leb (length r) maxKept) && probeOf b query .longer)
+  grows-by : (keeping : Bool) → (keeping && couldGrow b r) ≡ ((keeping && leb (length r) maxKept) && caseLonger (lookupOf b query .case))
   unfolding couldGrow maxKept
   grows-by false = refl
   grows-by true = go (leb (length r) maxKept) refl
     where
-      go : (t : Bool) → leb (length r) maxKept ≡ t → (t && probeOf b (beWords r) .longer) ≡ (t && probeOf b query .longer)
+      go : (t : Bool) → leb (length r) maxKept ≡ t → (t && caseLonger (lookupOf b (beWords r) .case)) ≡ (t && caseLonger (lookupOf b query .case))
       go false e = refl
-      go true e = ap (λ (xs : List ℕ). probeOf b (beWords xs) .longer) (sym (take-all maxLabels r (omega (arith, leb-true (length r) maxKept e))))
+      go true e = ap (λ (xs : List ℕ). caseLonger (lookupOf b (beWords xs) .case)) (sym (take-all maxLabels r (omega (arith, leb-true (length r) maxKept e))))
 
   next-is : (keeping : Bool) (n : ℕ) (o : Option ℕ) → FrontIs (keeping && leb (length r) maxKept) b query n o → NextIs keeping b r n o
   unfolding pieceAt matchedValue matched

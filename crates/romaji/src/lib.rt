@@ -31,7 +31,8 @@ use crate::texts::kept_room;
 use crate::texts::rest_kept;
 use crate::texts::text_length;
 use lxtr_highest::highest;
-use lxtr_search::exact;
+use lxtr_search::cases::found_value;
+use lxtr_search::lookup;
 use lxtr_spec::Found;
 use romaji_spec::EMPTY_KEY;
 use romaji_spec::NO_ROOM;
@@ -43,9 +44,7 @@ use romaji_spec::Typed;
 fn has_empty_key(image: &[u8]) -> bool
     ensures { λ r. ⌜ r ≡ hasEmptyKey (now (image .entry)) ⌝ }
 {
-    let answer = exact(image, b"");
-    let value = answer.value;
-    match value {
+    match found_value(lookup(image, b"")) {
         Found::Is(_) => true,
         Found::Nothing => false,
     }

@@ -6,7 +6,7 @@ ghost use Prim.Native.Nat.{_+_, _*_, _%_, _≤_, _<_};
 ghost use lib.ListN.{length, getD, drop};
 ghost use Rattle.lxtr_spec.specs.Numbers.{beWords};
 ghost use Rattle.lxtr_spec.specs.Labels.{labelsOf};
-ghost use Rattle.lxtr_spec.specs.Searches.{probeOf};
+ghost use Rattle.lxtr_spec.specs.Searches.{caseLonger, lookupOf};
 ghost use Rattle.lxtr_spec.specs.Answers.{found};
 ghost use Rattle.lxtr_laws.specs.Overlays.{over};
 ghost use Rattle.romaji_spec.specs.Typing.{hasEmptyKey};
@@ -20,9 +20,10 @@ use lxtr_bytes::labels::label_at;
 use lxtr_bytes::labels::label_count;
 use lxtr_bytes::numbers::lesser;
 use lxtr_bytes::numbers::put_be32;
-use lxtr_search::exact;
+use lxtr_search::cases::found_value;
+use lxtr_search::cases::has_longer;
 use lxtr_search::longest;
-use lxtr_search::probe;
+use lxtr_search::lookup;
 use lxtr_spec::Found;
 use lxtr_spec::MAX_LABELS;
 use romaji_spec::MAX_KEPT;
@@ -36,12 +37,12 @@ pub struct Next {
 
 // Whether a query is kept back: with `keeping`, if it is a proper front part of a key.
 fn waits(image: &[u8], query: &[u8], keeping: bool) -> bool
-    ensures { λ r. ⌜ r ≡ (keeping && probeOf (now (image .entry)) (now (query .entry)) .longer) ⌝ }
+    ensures { λ r. ⌜ r ≡ (keeping && caseLonger (lookupOf (now (image .entry)) (now (query .entry)) .case)) ⌝ }
 {
     if !keeping {
         return false;
     }
-    probe(image, query).longer
+    has_longer(lookup(image, query))
 }
 
 // The longest key at the front of a query, or one label if there is none.
@@ -52,9 +53,7 @@ fn longest_key(image: &[u8], query: &[u8]) -> Next
 {
     let mut refusal: u8 = 0;
     let part = longest(image, query, &mut refusal);
-    let answer = exact(image, part);
-    let value = answer.value;
-    let Found::Is(v) = value else {
+    let Found::Is(v) = found_value(lookup(image, part)) else {
         return Next {
             length: 1,
             value: Found::Nothing,

@@ -9,7 +9,7 @@ use mathlib.Core.Bool.{Bool, true, false, _&&_}
 use lib.ListN.{length, drop}
 use borrow.Author.Tests.{leb-true}
 use Rattle.lxtr_laws.specs.Tests.{and-is-true}
-use Rattle.lxtr_spec.specs.Searches.{probeOf}
+use Rattle.lxtr_spec.specs.Searches.{caseLonger, lookupOf}
 use Rattle.lxtr_spec.specs.Numbers.{beWords}
 use lib.Dec.{leb}
 use Rattle.romaji_spec.specs.Pieces.{maxKept, couldGrow, pieceText, pieceAt, onlyRest, withPiece, keptOr, cutAfter, cut}
@@ -57,7 +57,7 @@ module _ (keeping : Bool) (b : List ℕ) where
   unfolding couldGrow
   keeps-few r e =
       let grows = and-is-true keeping (couldGrow b r) .0 e .1 in
-      leb-true (length r) maxKept (and-is-true (leb (length r) maxKept) (probeOf b (beWords r) .longer) .0 grows .0)
+      leb-true (length r) maxKept (and-is-true (leb (length r) maxKept) (caseLonger (lookupOf b (beWords r) .case)) .0 grows .0)
 
   rest-after : (k : ℕ) (r : List ℕ) → length (cutAfter keeping b k r .rest) ≤ maxKept
   unfolding cutAfter keptOr onlyRest withPiece

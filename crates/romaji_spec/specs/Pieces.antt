@@ -8,17 +8,17 @@ use lib.ListN.{length, take, getD}
 use lib.Dec.{leb}
 use Rattle.lxtr_spec.specs.Numbers.{beWords}
 use Rattle.lxtr_spec.specs.Labels.{maxLabels}
-use Rattle.lxtr_spec.specs.Searches.{exactOf, longestOf, probeOf}
+use Rattle.lxtr_spec.specs.Searches.{caseValue, caseLonger, lookupOf, longestOf}
 use Rattle.romaji_spec.specs.KanaTables.{kanaOf}
 
 -- the most bytes that are kept back: a proper front part of a key has at least one label less than a key may have
 unfoldable pub maxKept : ℕ
 maxKept = maxLabels - 1
 
--- a rest that could still grow, being a proper front part of a key: probe says that longer keys exist. (The bound takes nothing
+-- a rest that could still grow, being a proper front part of a key: its lookup says that longer keys exist. (The bound takes nothing
 -- away: a longer rest is no proper front part of a key.)
 unfoldable pub couldGrow : List ℕ → List ℕ → Bool
-couldGrow b r = leb (length r) maxKept && probeOf b (beWords r) .longer
+couldGrow b r = leb (length r) maxKept && caseLonger (lookupOf b (beWords r) .case)
 
 -- a piece of the text: a key, with its value; or a byte that passes
 pub data Piece : Type 0 where
@@ -31,7 +31,7 @@ matched b r = longestOf b (beWords (take maxLabels r)) .part
 
 -- its value, or none if no key matches. (An image with the empty key is refused.)
 unfoldable pub matchedValue : List ℕ → List ℕ → Option ℕ
-matchedValue b r = exactOf b (matched b r) .value
+matchedValue b r = caseValue (lookupOf b (matched b r) .case)
 
 -- a byte at which no key matches passes through
 unfoldable pub pieceBy : List ℕ → ℕ → Option ℕ → Piece

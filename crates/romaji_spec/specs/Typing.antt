@@ -7,7 +7,7 @@ use lib.ListN.{length, take, drop, replicate}
 use lib.Dec.{ltb}
 use Rattle.lxtr_spec.specs.Numbers.{beWords}
 use Rattle.lxtr_spec.specs.Refusals.{refuseIf, firstRefusal, unlessRefused}
-use Rattle.lxtr_spec.specs.Searches.{exactOf}
+use Rattle.lxtr_spec.specs.Searches.{caseValue, lookupOf}
 use Rattle.lxtr_spec.specs.HighestValues.{highestOf}
 use Rattle.romaji_spec.specs.KanaTables.{tableShort}
 use Rattle.romaji_spec.specs.Pieces.{maxKept, Cutting, cut, outgoing}
@@ -29,7 +29,7 @@ isValue none = false
 isValue (some v) = true
 
 unfoldable pub hasEmptyKey : List ℕ → Bool
-hasEmptyKey b = isValue (exactOf b [] .value)
+hasEmptyKey b = isValue (caseValue (lookupOf b [] .case))
 
 -- 24, 25, 29, tested after 1 to 12 in that order. 29: no room for the labels that go out.
 unfoldable pub tableRefusal : List ℕ → List ℕ → ℕ

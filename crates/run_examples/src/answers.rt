@@ -5,16 +5,19 @@ use crate::output::CHILDLESS;
 use crate::output::CLOSE;
 use crate::output::COMMA;
 use crate::output::COUNT;
+use crate::output::EXACT;
+use crate::output::EXACT_AND_PREFIX;
 use crate::output::IN_LIST;
 use crate::output::LABEL;
 use crate::output::LENGTH;
 use crate::output::LISTED;
-use crate::output::NO;
 use crate::output::NOT_READ;
+use crate::output::NOTHING;
 use crate::output::NOWHERE;
 use crate::output::OFFSETS;
 use crate::output::OPEN;
 use crate::output::PAIRS;
+use crate::output::PREFIX;
 use crate::output::REST_CHANGED;
 use crate::output::REST_LEFT;
 use crate::output::ROOT_BASE;
@@ -25,13 +28,11 @@ use crate::output::UNREACHABLE;
 use crate::output::WORK_CHANGED;
 use crate::output::WORK_LEFT;
 use crate::output::WORK_ZERO;
-use crate::output::YES;
 use crate::output::print_bytes;
 use crate::output::print_number;
 use crate::output::say;
 use crate::output::say_number;
 use crate::output::say_refusal;
-use crate::output::say_value;
 use crate::rooms::FILLING_BYTE;
 use crate::rooms::FILLING_WORD;
 use crate::rooms::LISTING_ROOM;
@@ -42,6 +43,7 @@ use crate::rooms::words_are;
 use lxtr_messages::fault_number;
 use lxtr_output::parts::front;
 use lxtr_spec::Built;
+use lxtr_spec::Case;
 use lxtr_spec::Completion;
 use lxtr_spec::Fault;
 use lxtr_spec::LENGTH_COUNT;
@@ -91,11 +93,20 @@ pub fn check(image: &[u8]) {
     say_fault(lxtr_fault::fault(image));
 }
 
-pub fn exact(image: &[u8], query: &[u8]) {
-    let answer = lxtr_search::exact(image, query);
-    let value = answer.value;
+fn say_case(case: Case) {
+    match case {
+        Case::Neither => say(NOTHING),
+        Case::PrefixOnly => say(PREFIX),
+        Case::ExactOnly(v) => say_number(EXACT, v as u64),
+        Case::ExactAndPrefix(v) => say_number(EXACT_AND_PREFIX, v as u64),
+    }
+}
+
+pub fn lookup(image: &[u8], query: &[u8]) {
+    let answer = lxtr_search::lookup(image, query);
+    let case = answer.case;
     say_refusal(answer.refusal);
-    say_value(value);
+    say_case(case);
 }
 
 fn say_match(length: u32, value: u32) {
@@ -131,21 +142,6 @@ pub fn longest(image: &[u8], query: &[u8]) {
     print_number(found.len() as u64);
     say(BYTES);
     print_bytes(found);
-}
-
-fn yes_or_no(is_so: bool) -> u8 {
-    if is_so {
-        return YES;
-    }
-    NO
-}
-
-pub fn probe(image: &[u8], query: &[u8]) {
-    let answer = lxtr_search::probe(image, query);
-    let value = answer.value;
-    say_refusal(answer.refusal);
-    say_value(value);
-    say(yes_or_no(answer.longer));
 }
 
 // Lists the completions into the first `size` bytes of a room, and prints all of these bytes.

@@ -7,11 +7,10 @@ mod answers; // the commands that ask
 use crate::answers::build;
 use crate::answers::check;
 use crate::answers::complete;
-use crate::answers::exact;
 use crate::answers::header;
 use crate::answers::longest;
+use crate::answers::lookup;
 use crate::answers::prefixes;
-use crate::answers::probe;
 use crate::output::COLON;
 use crate::output::END;
 use crate::output::NOT_READ;
@@ -21,13 +20,12 @@ use example_lines::BUILD;
 use example_lines::CHECK;
 use example_lines::COMPLETE;
 use example_lines::CUT;
-use example_lines::EXACT;
 use example_lines::HEADER;
 use example_lines::IMAGE;
 use example_lines::LONGEST;
+use example_lines::LOOKUP;
 use example_lines::MORE;
 use example_lines::PREFIXES;
-use example_lines::PROBE;
 use example_lines::ROOM;
 use example_lines::Request;
 use example_lines::SET;
@@ -84,10 +82,9 @@ fn answer(request: Request, image: &[u8], bytes: &[u8]) {
     match command {
         HEADER => header(image),
         CHECK => check(image),
-        EXACT => exact(image, bytes),
+        LOOKUP => lookup(image, bytes),
         PREFIXES => prefixes(image, bytes),
         LONGEST => longest(image, bytes),
-        PROBE => probe(image, bytes),
         COMPLETE => complete(image, bytes, request.first),
         BUILD => build(bytes, request.first, request.second),
         _ => say(NOT_READ),

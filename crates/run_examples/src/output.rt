@@ -3,7 +3,6 @@
 use libc::STDOUT_FILENO;
 use lxtr_output::print;
 use lxtr_output::text_at;
-use lxtr_spec::Found;
 
 // The places of the words in the text of `say`.
 pub const END: u8 = 0;
@@ -18,11 +17,12 @@ pub const REFUSED: u8 = 4;
 
 pub const PAIRS: u8 = 5;
 
-const NONE: u8 = 6;
+// The cases of a lookup, the last of which is EXACT_AND_PREFIX.
+pub const NOTHING: u8 = 6;
 
-pub const YES: u8 = 7;
+pub const PREFIX: u8 = 7;
 
-pub const NO: u8 = 8;
+pub const EXACT: u8 = 8;
 
 pub const BYTES: u8 = 9;
 
@@ -69,6 +69,8 @@ pub const IN_LIST: u8 = 29;
 
 pub const LISTED: u8 = 30;
 
+pub const EXACT_AND_PREFIX: u8 = 31;
+
 pub fn print_number(n: u64) {
     io::print_decimal(STDOUT_FILENO, n);
 }
@@ -81,9 +83,9 @@ pub fn say(word: u8) {
           , |\
           refused |\
           pairs |\
-          none|\
-          , yes|\
-          , no|\
+          nothing|\
+          prefix|\
+          exact |\
           \x20bytes|\
           count |\
           , stopped|\
@@ -105,7 +107,8 @@ pub fn say(word: u8) {
           , base of slot |\
           , unreachable slot |\
           \x20in the list of slot |\
-          :|",
+          :|\
+          exact and prefix |",
         word,
     ));
 }
@@ -119,13 +122,6 @@ pub fn say_refusal(refusal: u8) {
     if refusal != 0 {
         say_number(REFUSED, refusal as u64);
         say(COMMA);
-    }
-}
-
-pub fn say_value(value: Found) {
-    match value {
-        Found::Is(v) => print_number(v as u64),
-        Found::Nothing => say(NONE),
     }
 }
 

@@ -1,4 +1,4 @@
--- The number of what `probe` answers.
+-- The number of what `lookup` answers.
 use borrow.Author.Needs.{needs}
 use Rattle.lxtr_c.specs.EntryNumbers.{probe-number}
 use Rattle.lxtr_c.proofs.lxtr_probe.Statement.{statement}

@@ -1,13 +1,13 @@
 -- Demand 2 for the searches and completions, from its parts.
--- The set of an image is what exact finds in it, and on that the searches agree even without the check.
+-- The set of an image is what lookup finds in it, and on that the searches agree even without the check.
 use Prim.Native.Nat.{ℕ, _+_, _-_}
 use native.Mathlib.Omega.{arith}
-use mathlib.Core.Path.{_≡_, fun-ext, subst}
+use mathlib.Core.Path.{_≡_, _∙_, fun-ext, subst}
 use mathlib.Core.List.{List}
 use lib.ListN.{length}
 use Rattle.lxtr_spec.specs.Labels.{labelsOf}
 use Rattle.lxtr_spec.specs.Refusals.{unlessRefused}
-use Rattle.lxtr_spec.specs.Searches.{exactValue, probeOf}
+use Rattle.lxtr_spec.specs.Searches.{caseFor, valueFor, lookupOf}
 use Rattle.lxtr_spec.specs.Completions.{pairsBelow, fitting}
 use Rattle.lxtr_spec.specs.Sets.{PairSet}
 use Rattle.lxtr_demands.specs.Operations.{defined}
@@ -15,25 +15,26 @@ use Rattle.lxtr_demands.specs.Demand2.{Searched, Demand2}
 use Rattle.lxtr_demands.specs.Laws.Kinds.{KnownImage}
 use Rattle.lxtr_demands.specs.Laws.Images.{known-image}
 use Rattle.lxtr_demands.specs.Laws.Queries.{leads, value-led}
-use Rattle.lxtr_demands.specs.Laws.Probes.{probe-longer}
-use Rattle.lxtr_demands.specs.Laws.Searches.{searches-agree}
+use Rattle.lxtr_demands.specs.Laws.Lookups.{one-case, true-case}
+use Rattle.lxtr_demands.specs.Laws.Searches.{value-reached, searches-agree}
 use Rattle.lxtr_demands.specs.Laws.CodeOrder.{one-listing}
 use Rattle.lxtr_demands.specs.Laws.Rooms.{some-front, one-front}
 use Rattle.lxtr_demands.specs.Laws.Completions.{pairs-listed, search-passes, completes}
 
--- the set of an image is what exact finds
-pub exact-set : {b : List ℕ} {d : PairSet} → KnownImage b d → exactValue b ≡ d
-unfolding exactValue
-exact-set known = fun-ext (λ xs. value-led known xs (leads known xs))
+-- the set of an image is what lookup finds
+pub lookup-set : {b : List ℕ} {d : PairSet} → KnownImage b d → valueFor b ≡ d
+lookup-set {b} known = fun-ext (λ xs. value-reached b xs ∙ value-led known xs (leads known xs))
 
 pub demand2 : Demand2 defined
-unfolding probeOf unlessRefused
+unfolding lookupOf unlessRefused
 demand2 b d q image whole =
     let passes = search-passes image q whole in
     let known = known-image image in
     record {
-      searched = subst (λ e. Searched defined b e q (labelsOf q)) (exact-set known) (searches-agree b q passes);
-      probe-longer = rw passes (probe-longer known (labelsOf q) (leads known (labelsOf q)));
+      searched = subst (λ e. Searched defined b e q (labelsOf q)) (lookup-set known) (searches-agree b q passes);
+      lookup = λ c is. rw (passes, one-case d (labelsOf q) (caseFor b (labelsOf q)) c (true-case known (labelsOf q)) is);
+      one-case = one-case d (labelsOf q);
+      some-case = (caseFor b (labelsOf q), true-case known (labelsOf q));
       one-listing = one-listing b d (labelsOf q);
       some-listing = (pairsBelow b (labelsOf q), pairs-listed known (labelsOf q));
       completion = λ ps fit room l h f. completes image q whole room ps fit h l f;

@@ -1,4 +1,4 @@
--- Demand 3, from its parts: bytes that pass are an image of the set that exact search finds in them, and an image has no other set.
+-- Demand 3, from its parts: bytes that pass are an image of the set that walks find in them, and an image has no other set.
 -- The answers of the check and of completion both follow from the one list of its pairs in code order.
 use Prim.Native.Nat.{ℕ}
 use native.Mathlib.Omega.{arith}

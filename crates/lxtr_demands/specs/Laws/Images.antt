@@ -1,4 +1,4 @@
--- An image passes the check, and its set is what exact search finds in it.
+-- An image passes the check, and its set is what walks find in it.
 -- Both are decidable, so it is enough that no slot can fail to be of one of the kinds, and this is what document 01's rules say.
 use Prim.Native.Nat.{ℕ, zero, suc, _<_}
 use native.Mathlib.Nat.{not-suc-le-zero, le-refl}

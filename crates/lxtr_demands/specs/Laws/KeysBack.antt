@@ -1,17 +1,18 @@
--- What is built reads back: over an image of the set of a key list's pairs, the check, exact and completion answer those keys.
+-- What is built reads back: over an image of the set of a key list's pairs, the check, lookup and completion answer those keys.
 -- Demands 2 and 3 say what they answer over an image; the keys ascend, so each pair is listed once.
 use Prim.Native.Nat.{ℕ, zero, suc, _%_, _^_, _<_}
 use native.Mathlib.Omega.{arith}
 use mathlib.Core.Path.{_≡_, sym, ap, _∙_}
 use mathlib.Core.Logic.{_≢_}
 use mathlib.Core.List.{List, [], _∷_, List·Memᴰ}
-use mathlib.Core.Option.{some, none}
+use mathlib.Core.Option.{some}
 use mathlib.Core.Bool.{true}
 use lib.ListN.{getD, length}
 use Rattle.lxtr_spec.specs.Numbers.{beWords}
 use Rattle.lxtr_spec.specs.Labels.{labelsOf, comesBefore, Pair}
 use Rattle.lxtr_spec.specs.Refusals.{unlessRefused, endCount, checkOf}
-use Rattle.lxtr_spec.specs.Searches.{searchRefusal, exactValue, exactOf}
+use Rattle.lxtr_spec.specs.Searches.{searchRefusal, caseValue, caseFor, valueFor, lookupOf}
+use Rattle.lxtr_spec.specs.declared.Case.the-variants.{Neither}
 use Rattle.lxtr_spec.specs.KeyLists.{keysAt, keyCount, pairsOf}
 use Rattle.lxtr_spec.specs.Sets.{PairSet, Has, ImageOf}
 use Rattle.lxtr_spec.specs.Meaning.{Lists}
@@ -25,11 +26,12 @@ use Rattle.lxtr_build_laws.specs.KeyListFacts.{Ascending, KeysRight}
 use Rattle.lxtr_build_laws.specs.KeyReading.{keys-length}
 use Rattle.lxtr_build_laws.specs.PairSets.{setOf, set-members}
 use Rattle.lxtr_demands.specs.Operations.{defined}
+use Rattle.lxtr_demands.specs.Demand2.{GivesValue}
 use Rattle.lxtr_demands.specs.Builder.{ReadsBack}
 use Rattle.lxtr_demands.specs.Laws.Images.{image-passes, known-image}
 use Rattle.lxtr_demands.specs.Laws.Counts.{pairs-counted, listing-counted}
 use Rattle.lxtr_demands.specs.Laws.Demand3.{demand3}
-use Rattle.lxtr_demands.specs.Laws.Demand2.{exact-set, demand2}
+use Rattle.lxtr_demands.specs.Laws.Demand2.{lookup-set, demand2}
 use Rattle.lxtr_demands.specs.Laws.BuiltImages.{scalar-small}
 
 -- keys in ascending order are sorted, so they differ
@@ -65,18 +67,18 @@ module _ (keys image : List ℕ) (right : KeysRight (pairsOf keys)) (image-of : 
   listing-count : (rs : List Pair) → Lists image d [] rs → length rs ≡ keyCount keys
   listing-count rs l = sym (listing-counted (known-image image-of) rs l) ∙ ends-count
 
-  exact-finds : (k : List ℕ) (v : ℕ) → List·Memᴰ (k, v) ps → exactOf image (beWords k) ≡ record { refusal = 0; value = some v }
-  exact-finds k v m =
+  lookup-finds : (k : List ℕ) (v : ℕ) → List·Memᴰ (k, v) ps → GivesValue defined image (beWords k) (some v)
+  lookup-finds k v m =
       let small : (i : ℕ) → i < length k → getD k i 0 < 2 ^ 32 = λ i h. scalar-small (getD k i 0) (right .scalar (k, v) m (getD k i 0) (member-at 0 k i h)) in
       let whole : length (beWords k) % 4 ≡ 0 = omega (arith, words-length k) in
-      demand2 image d (beWords k) image-of whole .searched .exact ∙ rw (labels-back k small, has k v m)
+      rw (labels-back k small, has k v m) at (demand2 image d (beWords k) image-of whole .searched .lookup-value)
 
-  exact-only : (q : List ℕ) (v : ℕ) → exactOf image q .value ≡ some v → List·Memᴰ (labelsOf q, v) ps
-  unfolding exactOf unlessRefused
-  exact-only q v e = go (searchRefusal image q) e
+  lookup-only : (q : List ℕ) (v : ℕ) → caseValue (lookupOf image q .case) ≡ some v → List·Memᴰ (labelsOf q, v) ps
+  unfolding lookupOf caseValue valueFor unlessRefused
+  lookup-only q v e = go (searchRefusal image q) e
     where
-      go : (n : ℕ) → unlessRefused n (exactValue image (labelsOf q)) none ≡ some v → List·Memᴰ (labelsOf q, v) ps
-      go zero e = member (labelsOf q) v (ap (λ (f : PairSet). f (labelsOf q)) (sym (exact-set (known-image image-of))) ∙ e)
+      go : (n : ℕ) → caseValue (unlessRefused n (caseFor image (labelsOf q)) Neither) ≡ some v → List·Memᴰ (labelsOf q, v) ps
+      go zero e = member (labelsOf q) v (ap (λ (f : PairSet). f (labelsOf q)) (sym (lookup-set (known-image image-of))) ∙ e)
       go (suc n) e = absurd (none-not-some e)
 
   pub reads-back : ReadsBack defined keys image
@@ -86,8 +88,8 @@ module _ (keys image : List ℕ) (right : KeysRight (pairsOf keys)) (image-of : 
     pair-set-is = record { each = has; only = member };
     image-of = image-of;
     checked = rw (image-passes image-of, ends-count);
-    exact = exact-finds;
-    exact-only = exact-only;
+    lookup = lookup-finds;
+    lookup-only = lookup-only;
     listing = demand3 image .listing d image-of;
     completion = λ rs room l h. demand3 image .completion d rs room image-of l h ∙ rw (listing-count rs l);
   }

@@ -12,9 +12,9 @@ use lib.Dec.{ltb, eqb}
 use borrow.Author.Tests.{ltb-true}
 use Rattle.lxtr_spec.specs.Image.{parent}
 use Rattle.lxtr_spec.specs.Refusals.{unlessRefused, headerRefusal}
-use Rattle.lxtr_spec.specs.Searches.{ProbeAnswer, probeAnswer}
-use Rattle.lxtr_spec.specs.Positions.{TypingPosition, freshPosition, allWalked, slotBy, oneMore, maxTyped, pushed, oneLess, takenBack, isPlaced, MoveAnswer, moveAnswer, movedTo, pushOf, backOf, positionProbeOf}
-use Rattle.lxtr_spec.specs.HostNumbers.{hostNumber, valueNumbered, probeNumber, positionNumber, positionOf, hostFresh, hostPushOf, hostBackOf, positionProbeNumber}
+use Rattle.lxtr_spec.specs.Searches.{caseValue, caseLonger}
+use Rattle.lxtr_spec.specs.Positions.{TypingPosition, freshPosition, allWalked, slotBy, oneMore, maxTyped, pushed, oneLess, takenBack, isPlaced, MoveAnswer, moveAnswer, movedTo, pushOf, backOf, positionLookupOf}
+use Rattle.lxtr_spec.specs.HostNumbers.{hostNumber, valueNumbered, probeNumbered, probeNumber, positionNumber, positionOf, hostFresh, hostPushOf, hostBackOf, positionProbeNumber}
 use Rattle.lxtr_laws.specs.Tests.{cond-holds}
 use Rattle.lxtr_laws.specs.RefusalChains.{stands}
 use Rattle.lxtr_laws.specs.Passed.{Passed, header-passed}
@@ -126,24 +126,20 @@ from-fresh : (b : List ℕ) (ms : List Move) → Numbered b freshPosition ms
 unfolding freshPosition
 from-fresh b ms = numbered b ms freshPosition (omega arith)
 
--- an answer's number
-abbrev numberOf : ProbeAnswer → ℕ
-numberOf a = valueNumbered (a .refusal) (a .longer) (a .value)
-
 host-stays : (b : List ℕ) (n k : ℕ) → Stays definedMoves b (positionOf n) k → HostStays definedHostMoves b n k
-unfolding hostPushOf hostBackOf moveAnswer positionProbeNumber valueNumbered hostNumber probeAnswer
+unfolding hostPushOf hostBackOf moveAnswer positionProbeNumber probeNumbered caseValue caseLonger valueNumbered hostNumber
 host-stays b n k s = record {
   pushed = λ x. ap (λ (a : MoveAnswer). positionNumber (a .position)) (s .pushed x) ∙ number-back n;
   taken-back = ap (λ (a : MoveAnswer). positionNumber (a .position)) (s .taken-back) ∙ number-back n;
-  answer = ap numberOf (s .answer) ∙ (let e : k * 2 ^ 40 + 0 + 0 + 0 ≡ k * 2 ^ 40 = omega arith in e);
+  answer = ap probeNumbered (s .answer) ∙ (let e : k * 2 ^ 40 + 0 + 0 + 0 ≡ k * 2 ^ 40 = omega arith in e);
 }
 
 pub host-position-demand : HostPositionDemand definedHostMoves
 unfolding hostFresh hostPushOf hostBackOf probeNumber positionProbeNumber moved
 host-position-demand = record {
-  answers-as-probe = λ b ms q whole labels.
+  answers-as-lookup = λ b ms q whole labels.
       let r = from-fresh b ms in
-      ap (λ (n : ℕ). numberOf (positionProbeOf b (positionOf n))) (r .same) ∙ ap numberOf (ap (positionProbeOf b) (reads-back (after b ms) (r .small)) ∙ position-demand .answers-as-probe b ms q whole labels);
+      ap (λ (n : ℕ). probeNumbered (positionLookupOf b (positionOf n))) (r .same) ∙ ap probeNumbered (ap (positionLookupOf b) (reads-back (after b ms) (r .small)) ∙ position-demand .answers-as-lookup b ms q whole labels);
   same-position = λ b ms ns same. from-fresh b ms .same ∙ ap positionNumber (position-demand .same-position b ms ns same) ∙ sym (from-fresh b ns .same);
   numbers = λ b n x h. (
     number-small (pushOf b (positionOf n) x .position) (moved-small b (positionOf n) (small-of n h) (push x)),

@@ -1,8 +1,8 @@
--- If 1 to 8 and 13 refuse nothing, the searches agree on the pairs that exact finds.
--- Within the limit no walk is cut short, so the values by which prefixes are defined are exact's.
+-- If 1 to 8 and 13 refuse nothing, the searches agree on the pairs that lookup finds.
+-- Within the limit no walk is cut short, so the values by which prefixes are defined are lookup's.
 use Prim.Native.Nat.{ℕ, _+_, _*_, _%_, _≤_}
 use native.Mathlib.Omega.{arith}
-use mathlib.Core.Path.{_≡_, refl, ap, fun-ext}
+use mathlib.Core.Path.{_≡_, refl, sym, ap, _∙_, fun-ext}
 use mathlib.Core.List.{List}
 use mathlib.Core.Option.{Option, some, none}
 use lib.ListN.{length, take, length-take}
@@ -11,56 +11,51 @@ use Rattle.lxtr_spec.specs.Ranges.{concatFrom}
 use Rattle.lxtr_spec.specs.Labels.{maxLabels, labelsOf}
 use Rattle.lxtr_spec.specs.Refusals.{unlessRefused, headerRefusal}
 use Rattle.lxtr_spec.specs.Walks.{walkWithin, valueReached, valueOf}
-use Rattle.lxtr_spec.specs.Searches.{queryRefusal, searchRefusal, exactValue, exactOf, lengthMatch, matchAt, matches, prefixMatches, prefixesOf, lastLength, longestLength, longestOf, probeAnswer, probeAt, probeOf}
+use Rattle.lxtr_spec.specs.Searches.{queryRefusal, searchRefusal, caseFor, valueFor, lookupOf, lengthMatch, matchAt, matches, prefixMatches, prefixesOf, lastLength, longestLength, longestOf}
 use Rattle.lxtr_spec.specs.Sets.{Has}
 use Rattle.lxtr_spec.specs.Meaning.{PrefixesIn, LongestIn}
 use Rattle.lxtr_laws.specs.RefusalChains.{none-first}
 use Rattle.lxtr_laws.specs.StepFacts.{none-not-some}
 use Rattle.lxtr_laws.specs.QueryLabels.{front-labels}
+use Rattle.lxtr_laws.specs.Cases.{value-there}
 use Rattle.lxtr_laws.specs.SearchReturns.{query-passes}
 use Rattle.lxtr_laws.specs.Walking.{within, within-is}
-use Rattle.lxtr_demands.specs.Demand2.{SearchesAgree}
+use Rattle.lxtr_demands.specs.Demand2.{GivesValue, SearchesAgree}
+use Rattle.lxtr_demands.specs.Operations.{defined}
 use Rattle.lxtr_demands.specs.Laws.Prefixes.{prefixes-in, one-prefixes, longest-in, one-longest}
 
-probe-refusal : (b : List ℕ) (o : Option ℕ) → probeAt b o .refusal ≡ 0
-unfolding probeAt probeAnswer
-probe-refusal b none = refl
-probe-refusal b (some n) = refl
-
-probe-value : (b : List ℕ) (o : Option ℕ) → probeAt b o .value ≡ valueReached b o
-unfolding probeAt probeAnswer valueReached
-probe-value b none = refl
-probe-value b (some n) = refl
-
 module _ (b : List ℕ) where
-  -- exact finds nothing beyond the limit
+  pub value-reached : (k : List ℕ) → valueFor b k ≡ valueReached b (walkWithin b k)
+  unfolding valueFor caseFor
+  value-reached k = value-there b (walkWithin b k)
+
+  -- lookup finds no value beyond the limit
   reached-limit : (k : List ℕ) (v : ℕ) (o : Option ℕ) → walkWithin b k ≡ o → valueReached b o ≡ some v → length k ≤ maxLabels
   unfolding valueReached
   reached-limit k v none e h = absurd (none-not-some h)
   reached-limit k v (some t) e h = within-is b k t .0 e .0
 
-  pub exact-limit : (k : List ℕ) (v : ℕ) → Has (exactValue b) k v → length k ≤ maxLabels
-  unfolding exactValue
-  exact-limit k v h = reached-limit k v (walkWithin b k) refl h
+  pub value-limit : (k : List ℕ) (v : ℕ) → Has (valueFor b) k v → length k ≤ maxLabels
+  value-limit k v h = reached-limit k v (walkWithin b k) refl (sym (value-reached k) ∙ h)
 
   -- and within the limit it finds what the walk gives
-  pub exact-within : (k : List ℕ) → length k ≤ maxLabels → exactValue b k ≡ valueOf b k
-  unfolding exactValue valueOf
-  exact-within k h = rw (within b k h)
+  pub value-within : (k : List ℕ) → length k ≤ maxLabels → valueFor b k ≡ valueOf b k
+  unfolding valueOf
+  value-within k h = value-reached k ∙ ap (valueReached b) (within b k h)
 
-  same-matches : (xs : List ℕ) → matches (exactValue b) (take maxLabels xs) ≡ matches (valueOf b) (take maxLabels xs)
+  same-matches : (xs : List ℕ) → matches (valueFor b) (take maxLabels xs) ≡ matches (valueOf b) (take maxLabels xs)
   unfolding matches matchAt
   same-matches xs =
       let ys = take maxLabels xs in
-      ap (concatFrom (length ys + 1) 0) (fun-ext (λ k. ap (lengthMatch k) (exact-within (take k ys) (omega (arith, length-take k ys, length-take maxLabels xs)))))
+      ap (concatFrom (length ys + 1) 0) (fun-ext (λ k. ap (lengthMatch k) (value-within (take k ys) (omega (arith, length-take k ys, length-take maxLabels xs)))))
 
   module _ (q : List ℕ) where
-    matches-in : PrefixesIn (exactValue b) (labelsOf q) (prefixMatches b q)
+    matches-in : PrefixesIn (valueFor b) (labelsOf q) (prefixMatches b q)
     unfolding prefixMatches
-    matches-in = rw (← (same-matches (labelsOf q))) (prefixes-in (exactValue b) exact-limit (labelsOf q))
+    matches-in = rw (← (same-matches (labelsOf q))) (prefixes-in (valueFor b) value-limit (labelsOf q))
 
-    longest-found : LongestIn (exactValue b) (labelsOf q) (lastLength (prefixMatches b q))
-    longest-found = longest-in (exactValue b) (labelsOf q) (prefixMatches b q) matches-in
+    longest-found : LongestIn (valueFor b) (labelsOf q) (lastLength (prefixMatches b q))
+    longest-found = longest-in (valueFor b) (labelsOf q) (prefixMatches b q) matches-in
 
     -- a front part of a query that is not refused is not refused either
     front-passes : (n : ℕ) → 4 * n ≤ length q → searchRefusal b q ≡ 0 → searchRefusal b (take (4 * n) q) ≡ 0
@@ -69,20 +64,22 @@ module _ (b : List ℕ) where
         let whole : length (take (4 * n) q) % 4 ≡ 0 = omega (arith, length-take-le (4 * n) q h) in
         none-first (headerRefusal b) (queryRefusal (take (4 * n) q)) .1 (none-first (headerRefusal b) (queryRefusal q) .0 e .0, query-passes (take (4 * n) q) .1 whole)
 
+    gives-value : searchRefusal b q ≡ 0 → GivesValue defined b q (valueFor b (labelsOf q))
+    unfolding lookupOf valueFor unlessRefused
+    gives-value passes = record { refusal = passes; value = rw passes }
+
 pub searches-agree : SearchesAgree
-unfolding exactOf exactValue prefixesOf longestLength longestOf probeOf unlessRefused
+unfolding prefixesOf longestLength longestOf unlessRefused
 searches-agree b q passes =
-    let d = exactValue b in
+    let d = valueFor b in
     let xs = labelsOf q in
     record {
-      exact = rw passes;
-      exact-front = λ n h. rw (front-passes b q n h passes, front-labels q n h);
+      lookup-value = gives-value b q passes;
+      front-value = λ n h. rw (front-labels q n h) at (gives-value b (take (4 * n) q) (front-passes b q n h passes));
       prefixes = λ ms p. rw (passes, one-prefixes d xs (prefixMatches b q) ms (matches-in b q) p);
       one-prefixes = one-prefixes d xs;
       some-prefixes = (prefixMatches b q, matches-in b q);
       longest = λ n l. rw (passes, one-longest d xs (lastLength (prefixMatches b q)) n (longest-found b q) l);
       one-longest = one-longest d xs;
       some-longest = (lastLength (prefixMatches b q), longest-found b q);
-      probe-refusal = rw passes (probe-refusal b (walkWithin b xs));
-      probe-value = rw passes (probe-value b (walkWithin b xs));
     }

@@ -12,7 +12,7 @@ use Rattle.lxtr_spec.specs.Sets.{PairSet, Has, Prefix, Listed, ImageOf}
 use Rattle.lxtr_laws.specs.Facts.{Used, unused-parent}
 use Rattle.lxtr_demands.specs.Laws.Codes.{code-listed, listed-code, listed-same}
 use Rattle.lxtr_laws.specs.KeyPrefixes.{Last, empty, snoc, last, prefix-root, prefix-key, prefix-part, prefix-on}
-use Rattle.lxtr_laws.specs.StepFacts.{Stepped, one-code, walk-empty, none-not-some, walk-snoc, exact-is}
+use Rattle.lxtr_laws.specs.StepFacts.{Stepped, one-code, walk-empty, none-not-some, walk-snoc, value-of-is}
 use Rattle.lxtr_demands.specs.Laws.Kinds.{KindIn, root, inner, leaf, unused, KnownImage}
 
 -- the slot of a prefix is a used slot of the image
@@ -83,7 +83,7 @@ module _ {b : List ℕ} {d : PairSet} (image : ImageOf b d) where
   key-value k v h =
       let f = prefix-key d k v h in
       let l = image .placed .end-leaf k v h in
-      exact-is b k v .1 (
+      value-of-is b k v .1 (
         image .slot k,
         walk-prefix k f,
         record {
@@ -140,13 +140,13 @@ module _ {b : List ℕ} {d : PairSet} (known : KnownImage b d) where
   pub walked : (p : List ℕ) (t : ℕ) → walk b 1 p ≡ some t → Prefix d p × (image .slot p ≡ t)
   walked p = walked-last p (last p)
 
-  -- exact search finds the set's value for every key
+  -- the walk finds the set's value for every key
   pub set-is : (k : List ℕ) → d k ≡ valueOf b k
   set-is k = go (d k) refl (valueOf b k) refl
     where
       is-key : (v : ℕ) → Has (valueOf b) k v → (w : ℕ) × Has d k w
       is-key v e =
-          let r = exact-is b k v .0 e in
+          let r = value-of-is b k v .0 e in
           let s = walked k (r .0) (r .1) in
           image .placed .slot-flag k (s .0) .0 (rw (s .1) (r .2 .flag))
 

@@ -1,4 +1,4 @@
--- Accepted bytes are an image: of the set of the pairs that exact search finds in them.
+-- Accepted bytes are an image: of the set of the pairs that walks find in them.
 -- Every slot with a parent is below a slot that a walk reaches, so it is the slot of a longer prefix or an end.
 use Prim.Native.Nat.{ℕ, _≤_, zero, suc, _<_}
 use native.Mathlib.Decide.{ℕ-discrete}

@@ -14,14 +14,16 @@ use Rattle.lxtr_spec.specs.Labels.{maxLabels, labelsOf}
 use Rattle.lxtr_spec.specs.Image.{codeOf}
 use Rattle.lxtr_spec.specs.Refusals.{unlessRefused}
 use Rattle.lxtr_spec.specs.Walks.{stepBy, walk, valueAt, valueReached, valueOf}
-use Rattle.lxtr_spec.specs.Searches.{searchRefusal, exactValue, exactOf}
+use Rattle.lxtr_spec.specs.Searches.{searchRefusal, caseValue, caseFor, valueFor, lookupOf}
 use Rattle.lxtr_spec.specs.Reasons.{endedWith, stoppedAt, reasonOf, whyOf, reasonNumber}
 use Rattle.lxtr_spec.specs.Sets.{PairSet, Has, Prefix, ImageOf}
 use Rattle.lxtr_spec.specs.Meaning.{Longer}
+use Rattle.lxtr_spec.specs.declared.Case.{Case}
+use Rattle.lxtr_spec.specs.declared.Case.the-variants.{Neither}
 use Rattle.lxtr_spec.specs.declared.Reason.{Reason}
 use Rattle.lxtr_spec.specs.declared.Reason.the-variants.{NoReason, IsFound, NotListed, NoStep, NoKeyEnds, TooLong}
 use Rattle.lxtr_laws.specs.RefusalChains.{stands}
-use Rattle.lxtr_laws.specs.StepFacts.{none-not-some, walk-empty, exact-is}
+use Rattle.lxtr_laws.specs.StepFacts.{none-not-some, walk-empty, value-of-is}
 use Rattle.lxtr_laws.specs.Walking.{walk-front, walk-on, walk-stays}
 use Rattle.lxtr_laws.specs.WalkReasons.{reason-stops, reason-ends, reason-too-long, reason-within}
 use Rattle.lxtr_demands.specs.TrueReasons.{Walks, ListedAt, StopsAt, TrueReason, StopsIn, ReasonIn, WhyDemand}
@@ -29,8 +31,8 @@ use Rattle.lxtr_demands.specs.Laws.Codes.{code-listed, code-missing}
 use Rattle.lxtr_demands.specs.Laws.Kinds.{KnownImage}
 use Rattle.lxtr_demands.specs.Laws.Slots.{walk-prefix, walked}
 use Rattle.lxtr_demands.specs.Laws.Images.{known-image}
-use Rattle.lxtr_demands.specs.Laws.Searches.{exact-limit, exact-within}
-use Rattle.lxtr_demands.specs.Laws.Demand2.{exact-set}
+use Rattle.lxtr_demands.specs.Laws.Searches.{value-limit, value-within}
+use Rattle.lxtr_demands.specs.Laws.Demand2.{lookup-set}
 
 module _ (b xs : List ℕ) where
   -- the labels before a place reach a slot, and the label there has no step from it
@@ -66,15 +68,15 @@ module _ (b xs : List ℕ) where
       go n e none f = (record { place = i; slot = n; below = s .place; reached = e; stays = f }, refl)
       go n e (some t) f = absurd (s .stops (i + 1) (omega arith) (t, walk-on b xs i n (s .place) e t f))
 
-  -- the value that exact finds is that of the slot reached
-  exact-at : length xs ≤ maxLabels → (n : ℕ) → walk b 1 xs ≡ some n → exactValue b xs ≡ valueAt b n
+  -- the value that lookup finds is that of the slot reached
+  value-at : length xs ≤ maxLabels → (n : ℕ) → walk b 1 xs ≡ some n → valueFor b xs ≡ valueAt b n
   unfolding valueOf valueReached
-  exact-at few n e = exact-within b xs few ∙ rw e
+  value-at few n e = value-within b xs few ∙ rw e
 
-  exact-reached : (v : ℕ) → exactValue b xs ≡ some v → (length xs ≤ maxLabels) × Walks b xs
-  exact-reached v e =
-      let few = exact-limit b xs v e in
-      let r = exact-is b xs v .0 (sym (exact-within b xs few) ∙ e) in
+  value-reached : (v : ℕ) → valueFor b xs ≡ some v → (length xs ≤ maxLabels) × Walks b xs
+  value-reached v e =
+      let few = value-limit b xs v e in
+      let r = value-of-is b xs v .0 (sym (value-within b xs few) ∙ e) in
       (few, (r .0, r .1))
 
   -- ---- the reason is true
@@ -94,9 +96,9 @@ module _ (b xs : List ℕ) where
 
   ended-true : length xs ≤ maxLabels → (n : ℕ) → walk b 1 xs ≡ some n → TrueReason b xs (endedWith (valueAt b n))
   unfolding endedWith
-  ended-true few n e = go (valueAt b n) (exact-at few n e)
+  ended-true few n e = go (valueAt b n) (value-at few n e)
     where
-      go : (o : Option ℕ) → exactValue b xs ≡ o → TrueReason b xs (endedWith o)
+      go : (o : Option ℕ) → valueFor b xs ≡ o → TrueReason b xs (endedWith o)
       go none f = (few, (n, e), f)
       go (some v) f = (v, f)
 
@@ -119,13 +121,13 @@ module _ (b xs : List ℕ) where
       let (t, same) = stop-at i s in
       reason-within b xs (s .within) ∙ rw same at (reason-stops b xs (t .place) (t .slot) (t .below) (t .reached) (t .stays))
 
-  reason-ended : (o : Option ℕ) → length xs ≤ maxLabels → Walks b xs → exactValue b xs ≡ o → reasonOf b xs ≡ endedWith o
-  reason-ended o few (n, e) f = reason-within b xs few ∙ reason-ends b xs n e ∙ ap endedWith (sym (exact-at few n e) ∙ f)
+  reason-ended : (o : Option ℕ) → length xs ≤ maxLabels → Walks b xs → valueFor b xs ≡ o → reasonOf b xs ≡ endedWith o
+  reason-ended o few (n, e) f = reason-within b xs few ∙ reason-ends b xs n e ∙ ap endedWith (sym (value-at few n e) ∙ f)
 
   only-reason : (r : Reason) → TrueReason b xs r → reasonOf b xs ≡ r
   unfolding endedWith
   only-reason NoReason t = absurd t
-  only-reason IsFound (v, e) = let r = exact-reached v e in reason-ended (some v) (r .0) (r .1) e
+  only-reason IsFound (v, e) = let r = value-reached v e in reason-ended (some v) (r .0) (r .1) e
   only-reason (NotListed i) (s, out) = reason-stopped i s ∙ ⊎-elim (λ (e, _). e) (λ (_, is). absurd (out is)) (told i)
   only-reason (NoStep i) (s, is) = reason-stopped i s ∙ ⊎-elim (λ (_, out). absurd (out is)) (λ (e, _). e) (told i)
   only-reason NoKeyEnds (few, w, e) = reason-ended none few w e
@@ -179,10 +181,10 @@ module _ {b : List ℕ} {d : PairSet} (image : ImageOf b d) (xs : List ℕ) wher
 
   reason-in : (r : Reason) → TrueReason b xs r ↔ ReasonIn b d xs r
   reason-in NoReason = Iff·rfl
-  reason-in IsFound = rw (exact-set known) Iff·rfl
+  reason-in IsFound = rw (lookup-set known) Iff·rfl
   reason-in (NotListed i) = (λ (s, out). (stops-in i .0 s, out), λ (s, out). (stops-in i .1 s, out))
   reason-in (NoStep i) = (λ (s, is). (stops-in i .0 s, is), λ (s, is). (stops-in i .1 s, is))
-  reason-in NoKeyEnds = rw (exact-set known) (
+  reason-in NoKeyEnds = rw (lookup-set known) (
     λ (few, w, e). (no-end e (walks-prefix xs .0 w), e),
     λ (o, e). let r = proper-front o in (r .0, walks-prefix xs .1 (r .1), e),
   )
@@ -190,26 +192,27 @@ module _ {b : List ℕ} {d : PairSet} (image : ImageOf b d) (xs : List ℕ) wher
 
 -- ---- the definitions meet the demand
 
-found-exactly : (b xs : List ℕ) → (reasonOf b xs ≡ IsFound) ↔ ((v : ℕ) × (exactValue b xs ≡ some v))
+found-exactly : (b xs : List ℕ) → (reasonOf b xs ≡ IsFound) ↔ ((v : ℕ) × (valueFor b xs ≡ some v))
 found-exactly b xs = (λ e. rw e at (reason-true b xs), only-reason b xs IsFound)
 
 no-reason-found : NoReason ≡ IsFound → ⊥
 unfolding reasonNumber
 no-reason-found e = omega (arith, ap reasonNumber e)
 
-unless-found : (k : ℕ) (r : Reason) (o : Option ℕ) → (r ≡ IsFound) ↔ ((v : ℕ) × (o ≡ some v)) → (unlessRefused k r NoReason ≡ IsFound) ↔ ((v : ℕ) × (unlessRefused k o none ≡ some v))
-unfolding unlessRefused
-unless-found zero r o h = h
-unless-found (suc k) r o h = (λ e. absurd (no-reason-found e), λ (v, e). absurd (none-not-some e))
+unless-found : (k : ℕ) (r : Reason) (c : Case) → (r ≡ IsFound) ↔ ((v : ℕ) × (caseValue c ≡ some v))
+    → (unlessRefused k r NoReason ≡ IsFound) ↔ ((v : ℕ) × (caseValue (unlessRefused k c Neither) ≡ some v))
+unfolding unlessRefused caseValue
+unless-found zero r c h = h
+unless-found (suc k) r c h = (λ e. absurd (no-reason-found e), λ (v, e). absurd (none-not-some e))
 
 pub why-demand : WhyDemand whyOf
-unfolding whyOf exactOf unlessRefused
+unfolding whyOf lookupOf valueFor unlessRefused
 why-demand = record {
   refused = λ b q h. rw (stands (searchRefusal b q) (reasonOf b (labelsOf q)) NoReason h);
   answer = λ b q r passes t. rw (passes, only-reason b (labelsOf q) r t);
   some-reason = λ b xs. (reasonOf b xs, reason-true b xs);
   one-reason = λ b xs r s t u. sym (only-reason b xs r t) ∙ only-reason b xs s u;
-  found-by-exact = λ b q. unless-found (searchRefusal b q) (reasonOf b (labelsOf q)) (exactValue b (labelsOf q)) (found-exactly b (labelsOf q));
+  found-by-lookup = λ b q. unless-found (searchRefusal b q) (reasonOf b (labelsOf q)) (caseFor b (labelsOf q)) (found-exactly b (labelsOf q));
   in-set = λ b d xs r image. reason-in image xs r;
   in-no-key = λ b d xs i image t p r v h. t .1 (image .keys .key-label p (getD xs i 0) r v h);
 }

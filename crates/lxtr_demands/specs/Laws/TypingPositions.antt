@@ -1,6 +1,6 @@
 -- A position belongs to the list of labels typed: its labels walked are the longest front part of the list, within the limit of a
 -- key, that reaches a slot. Every move keeps that, and a list has one such position. If all labels were walked, its place is the slot
--- that probe's walk reaches; if not, that walk fails.
+-- that lookup's walk reaches; if not, that walk fails.
 use Prim.Native.Nat.{ℕ, _+_, _-_, _%_, _≤_, _<_}
 use native.Mathlib.Decide.{ℕ-discrete}
 use native.Mathlib.Omega.{arith}
@@ -18,8 +18,12 @@ use Rattle.lxtr_spec.specs.Labels.{maxLabels, labelsOf}
 use Rattle.lxtr_spec.specs.Image.{slotCount, parent}
 use Rattle.lxtr_spec.specs.Refusals.{unlessRefused, headerRefusal}
 use Rattle.lxtr_spec.specs.Walks.{walk, walkWithin}
-use Rattle.lxtr_spec.specs.Searches.{probeAnswer, probeAt, probeOf}
-use Rattle.lxtr_spec.specs.Positions.{TypingPosition, freshPosition, allWalked, slotBy, oneMore, maxTyped, pushed, oneLess, takenBack, isPlaced, MoveAnswer, moveAnswer, movedTo, pushOf, backOf, reachedSlot, positionProbeOf}
+use Rattle.lxtr_spec.specs.Searches.{caseAt, caseFor, lookupOf}
+use Rattle.lxtr_spec.specs.Meaning.{CaseIn}
+use Rattle.lxtr_spec.specs.declared.Case.{Case}
+use Rattle.lxtr_spec.specs.declared.Case.the-variants.{Neither}
+use Rattle.lxtr_spec.specs.declared.Lookup.{Lookup}
+use Rattle.lxtr_spec.specs.Positions.{TypingPosition, freshPosition, allWalked, slotBy, oneMore, maxTyped, pushed, oneLess, takenBack, isPlaced, MoveAnswer, moveAnswer, movedTo, pushOf, backOf, reachedSlot, positionLookupOf}
 use Rattle.lxtr_laws.specs.Tests.{cond-holds}
 use Rattle.lxtr_laws.specs.RangeTests.{below-suc}
 use Rattle.lxtr_laws.specs.RefusalChains.{stands}
@@ -30,7 +34,7 @@ use Rattle.lxtr_laws.specs.PositionFacts.{slot-by-is, reached-is}
 use Rattle.lxtr_laws.specs.Lengths.{words-length}
 use Rattle.lxtr_laws.specs.QueryLabels.{labels-back}
 use Rattle.lxtr_laws.specs.Walking.{Walked, walked-start, walk-ended, walked-whole, walked-part, within-is}
-use Rattle.lxtr_laws.specs.SearchReturns.{header-stands, search-allowed}
+use Rattle.lxtr_laws.specs.SearchReturns.{header-stands, search-allowed, lookup-refused}
 use Rattle.lxtr_demands.specs.TypingPositions.{Move, push, back, heldAfter, heldFrom, held, moved, movedBy, definedMoves, library, Stays, Words, PositionDemand}
 use Rattle.lxtr_demands.specs.Laws.Demand2.{demand2}
 
@@ -171,7 +175,7 @@ module _ (b : List ℕ) (passes : headerRefusal b ≡ 0) where
   at-held : (ms : List Move) → At b (held ms) (after b ms)
   at-held ms = at-moves ms [] freshPosition at-fresh
 
-  -- the slot that all labels reach, or none, is what probe's walk gives
+  -- the slot that all labels reach, or none, is what lookup's walk gives
   reached-walked : (xs : List ℕ) (p : TypingPosition) → At b xs p → reachedSlot b p ≡ walkWithin b xs
   reached-walked xs p a = same-answer (reachedSlot b p) (walkWithin b xs) (λ t. (
     λ e.
@@ -183,18 +187,18 @@ module _ (b : List ℕ) (passes : headerRefusal b ≡ 0) where
         reached-is b p t .1 ((a .front .below, omega (arith, a .typed, a .front .so-far)), sym (all-reach (a .front) all) ∙ reached),
   ))
 
-  answers : (xs : List ℕ) (p : TypingPosition) → At b xs p → (q : List ℕ) → length q % 4 ≡ 0 → labelsOf q ≡ xs → positionProbeOf b p ≡ probeOf b q
-  unfolding positionProbeOf probeOf unlessRefused
+  answers : (xs : List ℕ) (p : TypingPosition) → At b xs p → (q : List ℕ) → length q % 4 ≡ 0 → labelsOf q ≡ xs → positionLookupOf b p ≡ lookupOf b q
+  unfolding positionLookupOf lookupOf caseFor unlessRefused
   answers xs p a q whole labels = rw (passes, ← (search-allowed b q 0 (sym passes) refl whole), labels, reached-walked xs p a)
 
 -- a refused image: the position stays
 module _ (b : List ℕ) (refused : headerRefusal b ≢ 0) where
   stays-refused : (p : TypingPosition) → Stays definedMoves b p (headerRefusal b)
-  unfolding pushOf backOf movedTo positionProbeOf
+  unfolding pushOf backOf movedTo positionLookupOf
   stays-refused p = record {
     pushed = λ x. stay (pushed b p x);
     taken-back = stay (takenBack b p);
-    answer = stands (headerRefusal b) (probeAt b (reachedSlot b p)) (probeAnswer (headerRefusal b) none false) refused;
+    answer = ap (λ (c : Case). record { refusal = headerRefusal b; case = c }) (stands (headerRefusal b) (caseAt b (reachedSlot b p)) Neither refused);
   }
     where
       stay : (next : TypingPosition) → moveAnswer (headerRefusal b) (unlessRefused (headerRefusal b) (cond (isPlaced b p) next p) p) ≡ moveAnswer (headerRefusal b) p
@@ -210,23 +214,22 @@ module _ (b : List ℕ) (refused : headerRefusal b ≢ 0) where
   unmoved-by [] p = refl
   unmoved-by (m ∷ ms) p = ap (λ (r : TypingPosition). movedBy (library definedMoves) b r ms) (unmoved p m) ∙ unmoved-by ms p
 
-  probe-refuses : (q : List ℕ) → probeOf b q ≡ probeAnswer (headerRefusal b) none false
-  unfolding probeOf
-  probe-refuses q = rw (← (header-stands b q (headerRefusal b) refl refused)) (stands (headerRefusal b) (probeAt b (walkWithin b (labelsOf q))) (probeAnswer (headerRefusal b) none false) refused)
+  lookup-refuses : (q : List ℕ) → _≡_ {A = Lookup} (record { refusal = headerRefusal b; case = Neither }) (lookupOf b q)
+  lookup-refuses q = lookup-refused b q (headerRefusal b) (header-stands b q (headerRefusal b) refl refused) refused (record { refusal = headerRefusal b; case = Neither }) refl
 
 -- a place that isn't below N
 stays-outside : (b : List ℕ) (p : TypingPosition) → headerRefusal b ≡ 0 → slotCount b ≤ p .slot → Stays definedMoves b p 0
-unfolding pushOf backOf movedTo positionProbeOf reachedSlot isPlaced probeAt unlessRefused
+unfolding pushOf backOf movedTo positionLookupOf reachedSlot isPlaced caseAt unlessRefused
 stays-outside b p passes h =
     let outside = le-ltb (p .slot) (slotCount b) h in
     record { pushed = λ x. rw (passes, outside); taken-back = rw (passes, outside); answer = rw (passes, outside) }
 
-answers-as-probe : (b : List ℕ) (ms : List Move) (q : List ℕ) → length q % 4 ≡ 0 → labelsOf q ≡ held ms → positionProbeOf b (after b ms) ≡ probeOf b q
-answers-as-probe b ms q whole labels = go (ℕ-discrete (headerRefusal b) 0)
+answers-as-lookup : (b : List ℕ) (ms : List Move) (q : List ℕ) → length q % 4 ≡ 0 → labelsOf q ≡ held ms → positionLookupOf b (after b ms) ≡ lookupOf b q
+answers-as-lookup b ms q whole labels = go (ℕ-discrete (headerRefusal b) 0)
   where
-    go : Dec (headerRefusal b ≡ 0) → positionProbeOf b (after b ms) ≡ probeOf b q
+    go : Dec (headerRefusal b ≡ 0) → positionLookupOf b (after b ms) ≡ lookupOf b q
     go (yes passes) = answers b passes (held ms) (after b ms) (at-held b passes ms) q whole labels
-    go (no refused) = stays-refused b refused (after b ms) .answer ∙ sym (probe-refuses b refused q)
+    go (no refused) = stays-refused b refused (after b ms) .answer ∙ lookup-refuses b refused q
 
 same-position : (b : List ℕ) (ms ns : List Move) → held ms ≡ held ns → after b ms ≡ after b ns
 same-position b ms ns same = go (ℕ-discrete (headerRefusal b) 0)
@@ -241,13 +244,14 @@ query-of ms small = (beWords (held ms), omega (arith, words-length (held ms)), l
 pub position-demand : PositionDemand definedMoves
 unfolding pushOf backOf movedTo moveAnswer
 position-demand = record {
-  answers-as-probe = answers-as-probe;
+  answers-as-lookup = answers-as-lookup;
   same-position = same-position;
   some-query = query-of;
   in-set = λ b d ms image small.
       let (q, whole, labels) = query-of ms small in
       let a = demand2 b d q image whole in
-      rw (answers-as-probe b ms q whole labels, ← labels) (a .searched .probe-refusal, a .searched .probe-value, a .probe-longer);
+      let (c, is) = a .some-case in
+      rw (answers-as-lookup b ms q whole labels, ← labels, a .lookup c is) (refl, is);
   refusals = λ b p x. (refl, refl);
   refused = λ b p refused. stays-refused b refused p;
   outside = stays-outside;

@@ -13,7 +13,7 @@ use Rattle.lxtr_spec.specs.Sets.{Has, Prefix}
 use Rattle.lxtr_laws.specs.Facts.{Accepted}
 use Rattle.lxtr_demands.specs.Laws.Codes.{code-listed, listed-same}
 use Rattle.lxtr_laws.specs.KeyPrefixes.{Last, empty, snoc, last, prefix-key, GoesOn}
-use Rattle.lxtr_laws.specs.StepFacts.{walk-empty, one-code, Stepped, Valued, walk-append, walk-snoc, exact-is}
+use Rattle.lxtr_laws.specs.StepFacts.{walk-empty, one-code, Stepped, Valued, walk-append, walk-snoc, value-of-is}
 use Rattle.lxtr_demands.specs.Laws.Walks.{WalkSlot, reached, root-parent}
 
 unfoldable pub slotAt : List ℕ → List ℕ → ℕ
@@ -40,7 +40,7 @@ module _ (b : List ℕ) where
       go : (p ≡ []) ⊎ GoesOn (valueOf b) p → walk b 1 p ≡ some (slotAt b p)
       go (inl e) = to 1 (ap (walk b 1) e ∙ walk-empty b 1 .1 refl)
       go (inr (r, v, e)) =
-          let x = exact-is b (p ++ r) v .0 e in
+          let x = value-of-is b (p ++ r) v .0 e in
           let w = walk-append b 1 p r (x .0) .0 (x .1) in
           to (w .0) (w .1)
 
@@ -56,7 +56,7 @@ module _ (b : List ℕ) where
 
     -- a key's value is at its end
     pub key-valued : Valued b (slotAt b k) v
-    key-valued = let x = exact-is b k v .0 h in rw (walk-slot k (x .0) (x .1)) (x .2)
+    key-valued = let x = value-of-is b k v .0 h in rw (walk-slot k (x .0) (x .1)) (x .2)
 
     pub end-is : key-valued .slot ≡ endAt b k
     unfolding endAt

@@ -21,7 +21,7 @@ use Rattle.lxtr_laws.specs.Facts.{UsedFrom2, Used, UsedRight, EntryRight, ances
 use Rattle.lxtr_laws.specs.Faults.{end-exists}
 use Rattle.lxtr_demands.specs.Laws.Codes.{code-listed, listed-code}
 use Rattle.lxtr_laws.specs.KeyPrefixes.{Last, empty, snoc, last, length-snoc, GoesOn}
-use Rattle.lxtr_laws.specs.StepFacts.{Stepped, own-code, walk-ancestor, walk-empty, walk-snoc, exact-is}
+use Rattle.lxtr_laws.specs.StepFacts.{Stepped, own-code, walk-ancestor, walk-empty, walk-snoc, value-of-is}
 use Rattle.lxtr_laws.specs.ListPlaces.{in-list}
 use Rattle.lxtr_demands.specs.Laws.Kinds.{}
 
@@ -113,7 +113,7 @@ module _ {b : List ℕ} (ok : Accepted b) where
         let z : base b n ≡ t = sym (s .at ∙ slot-of-base b n) in
         let r = reached p n w in
         let flag = ok .slots n (r .to) .flag (r .from) ∙ end-exists b n .1 (rw z s) in
-        (exact-is b p (valueNumber b t) .1 (n, w, record { flag = flag; slot = t; stepped = s; leaf = e; value = refl }), s .at)
+        (value-of-is b p (valueNumber b t) .1 (n, w, record { flag = flag; slot = t; stepped = s; leaf = e; value = refl }), s .at)
 
     pub inner-child : isLeaf b t ≡ false → (x : ℕ) × (walk b 1 (p ++ x ∷ []) ≡ some t)
     inner-child e =

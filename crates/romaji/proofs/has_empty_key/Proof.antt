@@ -1,4 +1,4 @@
--- What exact answers for the empty query.
+-- What a lookup answers for the empty query.
 use borrow.Author.Needs.{needs}
 use Rattle.romaji.specs.Answering.{empty-found, empty-missing}
 use Rattle.romaji.proofs.has_empty_key.Statement.{statement}
@@ -9,6 +9,7 @@ has-empty-key-spec =
     tie.close
     (tie.spec
     (λ c. search needs)
+    (λ c κs. search needs)
     (λ c κs. search needs)
     (λ c. search needs)
     (λ c. search needs)

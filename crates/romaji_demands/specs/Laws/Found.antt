@@ -13,7 +13,7 @@ use lib.Dec.{leb}
 use borrow.Author.Tests.{le-leb}
 use Rattle.lxtr_spec.specs.Numbers.{beWords}
 use Rattle.lxtr_spec.specs.Labels.{maxLabels}
-use Rattle.lxtr_spec.specs.Searches.{ExactAnswer, LongestAnswer, exactOf, probeOf}
+use Rattle.lxtr_spec.specs.Searches.{LongestAnswer, caseValue, caseLonger, lookupOf}
 use Rattle.lxtr_spec.specs.Sets.{PairSet, Has, ImageOf}
 use Rattle.lxtr_spec.specs.Meaning.{LongestIn, Longer}
 use Rattle.lxtr_laws.specs.Tests.{and-is-true}
@@ -22,6 +22,7 @@ use Rattle.lxtr_laws.specs.StepFacts.{none-not-some}
 use Rattle.lxtr_laws.specs.QueryLabels.{labels-back}
 use Rattle.lxtr_demands.specs.Operations.{defined}
 use Rattle.lxtr_demands.specs.Demand2.{Searched, Answered}
+use Rattle.lxtr_demands.specs.Laws.Lookups.{case-says}
 use Rattle.lxtr_demands.specs.Laws.Demand2.{demand2}
 use Rattle.romaji_spec.specs.Pieces.{maxKept, couldGrow, Piece, matched, matchedValue, pieceBy, pieceAt, pieceText}
 use Rattle.romaji_demands.specs.Cuts.{NoKeyAt, PieceAt}
@@ -38,6 +39,9 @@ module _ {b : List ℕ} {d : PairSet} (image : ImageOf b d) where
   answered : (r : List ℕ) → Bytes r → Answered defined b d (beWords r) r
   answered r small = subst (Answered defined b d (beWords r)) (labels-back r (λ i h. omega (arith, small i h))) (demand2 b d (beWords r) image (omega (arith, words-length r)))
 
+  longer-told : (r : List ℕ) → Bytes r → (caseLonger (lookupOf b (beWords r) .case) ≡ true) ↔ Longer d r
+  longer-told r small = let (c, is) = answered r small .some-case in rw (answered r small .lookup c is) (case-says d r c is .longer)
+
   -- a proper front part of a key has at least one label less than a key may have
   pub front-length : (r : List ℕ) → Longer d r → length r ≤ maxKept
   unfolding maxKept
@@ -46,8 +50,8 @@ module _ {b : List ℕ} {d : PairSet} (image : ImageOf b d) where
   pub grows : (r : List ℕ) → Bytes r → (couldGrow b r ≡ true) ↔ Longer d r
   unfolding couldGrow
   grows r small =
-      let longer = answered r small .probe-longer in
-      let both = and-is-true (leb (length r) maxKept) (probeOf b (beWords r) .longer) in (
+      let longer = longer-told r small in
+      let both = and-is-true (leb (length r) maxKept) (caseLonger (lookupOf b (beWords r) .case)) in (
         λ e. longer .0 (both .0 e .1),
         λ l. both .1 (le-leb (length r) maxKept (front-length r l), longer .1 l),
       )
@@ -79,8 +83,8 @@ module _ {b : List ℕ} {d : PairSet} (image : ImageOf b d) where
 
     matched-value : matchedValue b r ≡ d (take n r)
     unfolding matchedValue
-    matched-value = ap (λ (q : List ℕ). exactOf b q .value) matched-is
-        ∙ ap (λ (a : ExactAnswer). a .value) (searched .exact-front n (omega (arith, within, words-length (take maxLabels r)))) ∙ ap d front-take
+    matched-value = ap (λ (q : List ℕ). caseValue (lookupOf b q .case)) matched-is
+        ∙ searched .front-value n (omega (arith, within, words-length (take maxLabels r))) .value ∙ ap d front-take
 
     piece-by : pieceAt b r ≡ pieceBy r n (d (take n r))
     unfolding pieceAt

@@ -53,7 +53,7 @@ module _ (b kana : List ℕ) where
   -- over an image
   refusal-is : (d : PairSet) (h : Option ℕ) → ImageOf b d → HighestIn d h → tableRefusal b kana ≡ refuseIf (tableShort kana h) 24 (refuseIf (isValue (d [])) 25 0)
   unfolding tableRefusal hasEmptyKey firstRefusal labelsOf labelsFrom
-  refusal-is d h image is = rw (highest-value b .answer d h image is, demand2 b d [] image refl .searched .exact)
+  refusal-is d h image is = rw (highest-value b .answer d h image is, demand2 b d [] image refl .searched .lookup-value .value)
 
   pub ready-passes : (d : PairSet) → Ready b kana d → tableRefusal b kana ≡ 0
   unfolding refuseIf isValue

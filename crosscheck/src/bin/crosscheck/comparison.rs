@@ -1,10 +1,10 @@
 //! Runs calls through both implementations and keeps the score: differences,
-//! refusals seen, and which wrong variants were noticed.
+//! refusals, cases and reasons seen, and which wrong variants were noticed.
 
 use crate::archive::{Answered, Archive};
 use crate::call::{Call, Function, Images};
 use crate::lent::{Lent, Parts};
-use crosscheck::answers::{value_number, why_number};
+use crosscheck::answers::{exact_number, probe_number, value_number, why_number};
 use crosscheck::common::{labels_in, query_of, Refusal};
 use crosscheck::image::Image;
 use crosscheck::oracle::{self, Pair};
@@ -18,6 +18,8 @@ const SHOWN_DIFFERENCES: u64 = 10;
 const REFUSALS: usize = 30;
 /// One more than the highest number that an answer has bits for, of a part of rule 11 or of a reason.
 const PARTS: usize = 8;
+/// The cases of lookup, by bits 32 and 33 of what probe answers.
+const CASES: [&str; 4] = ["nothing", "exact", "prefix", "exact and prefix"];
 
 /// A wrong variant, and the comparison that distinguished it from the documents.
 struct Variant {
@@ -39,6 +41,8 @@ pub struct Comparison {
     seen: [[u64; REFUSALS]; Function::ALL.len()],
     /// How often a fault lay in each part of rule 11, 0 for other rules.
     list_faults: [u64; PARTS],
+    /// How often probe gave each case of lookup.
+    cases: [u64; CASES.len()],
     /// How often each reason why a word is missing was given, 0 for none.
     reasons: [u64; PARTS],
     variants: Vec<Variant>,
@@ -51,6 +55,8 @@ pub struct Comparison {
 struct OracleScore {
     images: u64,
     with_set: u64,
+    /// How often a set gave each case of lookup.
+    cases: [u64; CASES.len()],
     /// How often a set gave each reason.
     reasons: [u64; PARTS],
 }
@@ -76,6 +82,7 @@ impl Comparison {
             unmet: 0,
             seen: [[0; REFUSALS]; Function::ALL.len()],
             list_faults: [0; PARTS],
+            cases: [0; CASES.len()],
             reasons: [0; PARTS],
             variants: Wrong::ALL.iter().map(variant).collect(),
             oracle: OracleScore::default(),
@@ -89,14 +96,20 @@ impl Comparison {
         self.compared
     }
 
-    /// Compares one call in its answer and all lent memory. Returns the archive's answer.
+    /// Compares one call in its answer and all lent memory, and its answer with the one that the
+    /// set gives, if it gives one. Returns the archive's answer.
     pub fn call(&mut self, call: Call) -> u64 {
         let answered = self.archive.answer(&call, &mut self.real);
         let expected = call.by_rules(Rules::DOCUMENT, &mut self.expected);
         if self.score(&call, &answered, expected) {
             self.try_variants(&call, answered.answer);
         }
-        answered.answer
+        let answer = answered.answer;
+        if let Some(by_set) = self.by_set(&call).filter(|by_set| *by_set != answer) {
+            self.require(false, "the set gives another answer");
+            self.show(&call, answer, by_set);
+        }
+        answer
     }
 
     /// What the archive left in the state and the room of the last call.
@@ -116,6 +129,7 @@ impl Comparison {
         let part = (answer >> 34) as usize % PARTS;
         match call {
             Call::Fault { .. } => self.list_faults[part] += 1,
+            Call::Probe { .. } => count_case(&mut self.cases, answer),
             Call::Why { .. } => self.reasons[part] += 1,
             _ => {}
         }
@@ -272,21 +286,26 @@ impl Comparison {
         self.score(&call, &answered, set.len() as u64);
     }
 
-    /// Compares the reason for a query, and over the last image with a set also the one that the set
-    /// gives. Returns the archive's answer.
-    pub fn why(&mut self, image: &[u8], query: &[u8]) -> u64 {
-        let call = Call::Why { image, query };
-        let answer = self.call(call);
-        let last = self.last_set.as_ref().filter(|last| last.image == image);
-        if let Some(last) = last.filter(|_| query.len().is_multiple_of(4)) {
-            let why = oracle::why(&last.set, &last.listed, &labels_in(query));
-            self.oracle.reasons[why.reason as usize] += 1;
-            if answer != why_number(why) {
-                self.require(false, "the set gives another reason");
-                self.show(&call, answer, why_number(why));
+    /// What exact, probe and why have to answer by the set, over the last image with a set.
+    fn by_set(&mut self, call: &Call) -> Option<u64> {
+        let [image, query, _] = call.inputs();
+        let whole = query.len().is_multiple_of(4);
+        let last = self.last_set.as_ref().filter(|last| whole && last.image == image)?;
+        let case = || oracle::lookup(&last.set, &labels_in(query));
+        match call {
+            Call::Exact { .. } => Some(exact_number(case())),
+            Call::Probe { .. } => {
+                let answer = probe_number(case());
+                count_case(&mut self.oracle.cases, answer);
+                Some(answer)
             }
+            Call::Why { .. } => {
+                let why = oracle::why(&last.set, &last.listed, &labels_in(query));
+                self.oracle.reasons[why.reason as usize] += 1;
+                Some(why_number(why))
+            }
+            _ => None,
         }
-        answer
     }
 
     /// Prints the tables. Returns how many comparisons and variants came out right and wrong.
@@ -294,6 +313,8 @@ impl Comparison {
         self.print_refusals();
         println!("faults in the parts of rule 11: {:?}", &self.list_faults[1..=5]);
         println!("set oracle: {} images, {} with a set", self.oracle.images, self.oracle.with_set);
+        println!("cases of lookup ({}) from probe: {:?}", CASES.join(", "), self.cases);
+        println!("cases of lookup from the set oracle: {:?}", self.oracle.cases);
         let last = Reason::ALL.len();
         println!("reasons from why: {:?}", &self.reasons[1..=last]);
         println!("reasons from the set oracle: {:?}", &self.oracle.reasons[1..=last]);
@@ -322,13 +343,19 @@ impl Comparison {
         }
     }
 
-    /// Prints and counts the refusals, parts of rule 11 and reasons that a function
-    /// can give but never gave.
+    /// Prints and counts the refusals, parts of rule 11, cases and reasons that a
+    /// function can give but never gave.
     fn never_seen(&self) -> u64 {
         let mut never = 0;
         for part in (1..=5).filter(|part| self.list_faults[*part] == 0) {
             println!("NEVER SEEN: part {part} of rule 11 from fault");
             never += 1;
+        }
+        for (seen, from) in [(self.cases, "probe"), (self.oracle.cases, "the set oracle")] {
+            for (_, case) in seen.iter().zip(CASES).filter(|(count, _)| **count == 0) {
+                println!("NEVER SEEN: case {case} from {from}");
+                never += 1;
+            }
         }
         for (seen, from) in [(self.reasons, "why"), (self.oracle.reasons, "the set oracle")] {
             for reason in Reason::ALL.iter().filter(|reason| seen[**reason as usize] == 0) {
@@ -361,5 +388,12 @@ impl Comparison {
         let noticed = self.variants.iter().filter(|variant| variant.noticed.is_some()).count();
         println!("wrong variants: {noticed} of {} noticed", self.variants.len());
         (self.variants.len() - noticed) as u64
+    }
+}
+
+/// Counts the case that an answer of probe gives; a refusal gives none.
+fn count_case(cases: &mut [u64; CASES.len()], answer: u64) {
+    if let Some(count) = cases.get_mut((answer >> 32) as usize) {
+        *count += 1;
     }
 }

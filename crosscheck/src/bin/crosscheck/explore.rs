@@ -12,13 +12,13 @@ use crosscheck::random::Random;
 use crosscheck::rules::Rules;
 use crosscheck::why::Reason;
 
-/// All four searches for one query, and the reason why it is missing, which has to agree with exact.
+/// All searches for one query, and the reason why it is missing, which has to agree with exact.
 pub fn search(comparison: &mut Comparison, image: &[u8], query: &[u8], places: usize) {
     let exact = comparison.call(Call::Exact { image, query });
     comparison.call(Call::Probe { image, query });
     comparison.call(Call::Longest { image, query });
     comparison.call(Call::Prefixes { image, query, places });
-    let found = comparison.why(image, query) == why_number(Reason::Found.at(0));
+    let found = comparison.call(Call::Why { image, query }) == why_number(Reason::Found.at(0));
     comparison.require(found == (exact >> 32 == 1), "found is not exactly where exact has a value");
 }
 
@@ -28,7 +28,7 @@ pub fn any_search(comparison: &mut Comparison, random: &mut Random, image: &[u8]
         0 => comparison.call(Call::Exact { image, query }),
         1 => comparison.call(Call::Probe { image, query }),
         2 => comparison.call(Call::Longest { image, query }),
-        3 => comparison.why(image, query),
+        3 => comparison.call(Call::Why { image, query }),
         _ => comparison.call(Call::Prefixes { image, query, places: any_places(random) }),
     };
 }

@@ -5,11 +5,11 @@
 //! word of lent memory with guard zones around it, or the program's text. Of a
 //! typing position, whose number is not specified, the answer after each move is
 //! compared. Besides that, the check, the highest value, the completion of the
-//! empty prefix and the reasons why words are missing are compared with the set
-//! oracle, typing in parts is compared with typing at once, a typing position must
-//! be the same whenever its labels are, and wrong variants of the independent
-//! implementation take part in the same comparisons: each must be noticed by a
-//! difference.
+//! empty prefix, exact, probe and the reasons why words are missing are compared
+//! with the set oracle, typing in parts is compared with typing at once, a typing
+//! position must be the same whenever its labels are, and wrong variants of the
+//! independent implementation take part in the same comparisons: each must be
+//! noticed by a difference.
 //!
 //! Run with `cargo run --release --offline`, in this package's folder, after the
 //! archive `../target/staticlib/liblxtr_c.a` and the listing program

@@ -1,6 +1,6 @@
--- Nothing is kept, or what probe says.
+-- Nothing is kept, or what the lookup says.
 use borrow.Author.Needs.{needs}
-use Rattle.romaji.specs.NextPieces.{never-waits, probe-waits}
+use Rattle.romaji.specs.NextPieces.{never-waits, longer-waits}
 use Rattle.romaji.proofs.pieces.waits.Statement.{statement}
 use Rattle.romaji.proofs.pieces.waits.Tie as tie
 
@@ -10,4 +10,5 @@ waits-spec =
     (tie.spec
     (λ c. search never-waits)
     (λ c κs. search needs)
-    (λ c. search probe-waits))
+    (λ c κs. search needs)
+    (λ c. search longer-waits))

@@ -4,6 +4,7 @@
 
 use super::examples::{built, changed, n_na};
 use super::position_examples::cycles;
+use crate::call::Call;
 use crate::comparison::Comparison;
 use crate::explore::search;
 use crate::keysets::all_strings;
@@ -62,7 +63,7 @@ fn around_the_limit(comparison: &mut Comparison, image: &[u8]) {
             for places in [[0, 0], [1, length - 1], [length - 2, length - 1]] {
                 let mut labels = listed.clone();
                 places.iter().for_each(|place| labels[*place] = X);
-                comparison.why(image, &query_of(&labels));
+                comparison.call(Call::Why { image, query: &query_of(&labels) });
             }
         }
     }
@@ -74,8 +75,9 @@ fn refused(comparison: &mut Comparison, image: &[u8]) {
     for labels in [1, 2, KEY_LABELS, KEY_LABELS + 1, KEY_LABELS + 2] {
         let query = query_of(&vec![N; labels]);
         for cut in 0..4 {
-            comparison.why(image, &query[cut..]);
-            comparison.why(&longer, &query[cut..]);
+            for image in [image, &longer] {
+                comparison.call(Call::Why { image, query: &query[cut..] });
+            }
         }
     }
 }

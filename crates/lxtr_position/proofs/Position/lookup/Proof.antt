@@ -1,11 +1,11 @@
--- A refusal, or no place, gives neither a value nor longer keys; otherwise the answer is what the slot has.
+-- A refusal, or no place, gives the case that says nothing; otherwise it is the case at the slot.
 use borrow.Author.Needs.{needs}
 use Rattle.lxtr_position.specs.Moves.{header-allows, header-long, reached-below, position-refused, position-nowhere, position-reached}
-use Rattle.lxtr_position.proofs.Position.probe.Statement.{statement}
-use Rattle.lxtr_position.proofs.Position.probe.Tie as tie
+use Rattle.lxtr_position.proofs.Position.lookup.Statement.{statement}
+use Rattle.lxtr_position.proofs.Position.lookup.Tie as tie
 
-pub probe-spec : {M : Type 1} → statement M
-probe-spec =
+pub lookup-spec : {M : Type 1} → statement M
+lookup-spec =
     tie.close
     (tie.spec
     (λ c κs. search needs)

@@ -1,25 +1,29 @@
--- The width of a slot's children list says whether longer keys exist: its entries are the slots of longer prefixes, and the
--- prefix's own end. The end has code 0, so if it is listed, it comes first.
+-- The case of a lookup is the one that is true of the set. Its value is the set's, and the width of a slot's children list says whether
+-- longer keys exist: its entries are the slots of longer prefixes, and the prefix's own end, which has code 0 and comes first.
 use Prim.Native.Nat.{ℕ, _+_, _<_}
 use native.Mathlib.Omega.{arith}
 use mathlib.Core.Path.{_≡_, refl, sym, ap, _∙_}
 use mathlib.Core.Logic.{_≢_, _↔_, inr}
-use mathlib.Core.List.{List, [], _∷_, _++_, append-assoc}
-use mathlib.Core.Option.{Option}
+use mathlib.Core.List.{List, [], _∷_, _++_, append-assoc, append-nil}
+use mathlib.Core.Option.{Option, some, none}
 use mathlib.Core.Bool.{Bool, true, false, cond, true≢false, false≢true}
 use Rattle.lxtr_spec.specs.Image.{hasLeaf, offset, child, listWidth}
-use Rattle.lxtr_spec.specs.Walks.{longerAt}
-use Rattle.lxtr_spec.specs.Searches.{probeAnswer, probeAt}
+use Rattle.lxtr_spec.specs.Walks.{walkWithin, valueAt, longerAt}
+use Rattle.lxtr_spec.specs.Searches.{caseValue, caseLonger, caseAt, caseFor}
 use Rattle.lxtr_spec.specs.Sets.{PairSet, Has, Prefix, InList}
-use Rattle.lxtr_spec.specs.Meaning.{Longer}
-use Rattle.lxtr_laws.specs.Tests.{ltb-is-true}
+use Rattle.lxtr_spec.specs.Meaning.{Longer, CaseIn}
+use Rattle.lxtr_spec.specs.declared.Case.{Case}
+use Rattle.lxtr_spec.specs.declared.Case.the-variants.{Neither, PrefixOnly, ExactOnly, ExactAndPrefix}
+use Rattle.lxtr_laws.specs.Tests.{ltb-is-true, same-test}
+use Rattle.lxtr_laws.specs.Cases.{case-longer, same-case, value-there}
+use Rattle.lxtr_laws.specs.StepFacts.{none-not-some}
 use Rattle.lxtr_laws.specs.KeyPrefixes.{snoc-cons, prefix-part, prefix-on}
 use Rattle.lxtr_laws.specs.ListPlaces.{in-list}
 use Rattle.lxtr_laws.specs.EntryPlaces.{lists-sorted, code-rises}
 use Rattle.lxtr_demands.specs.Laws.Kinds.{KnownImage}
 use Rattle.lxtr_demands.specs.Laws.Slots.{prefix-slot, ChildIn, longer, ended}
 use Rattle.lxtr_demands.specs.Laws.Entries.{ended-code, entry-is, ended-place, longer-place}
-use Rattle.lxtr_demands.specs.Laws.Queries.{Leads, to-slot, nowhere}
+use Rattle.lxtr_demands.specs.Laws.Queries.{Leads, to-slot, nowhere, leads, value-led}
 
 -- a longer key makes a longer prefix, and the other way round
 module _ (d : PairSet) (xs : List ℕ) where
@@ -28,6 +32,40 @@ module _ (d : PairSet) (xs : List ℕ) where
 
   prefix-longer : (x : ℕ) → Prefix d (xs ++ x ∷ []) → Longer d xs
   prefix-longer x f = let k = prefix-on d xs x f in record { next = x; rest = k .0; value = k .1; is = rw append-assoc at (k .2) }
+
+  -- what a case says of the set is what its value and its longer keys say
+  pub record Says (c : Case) : Type 0 where
+    pub value : caseValue c ≡ d xs
+    pub longer : (caseLonger c ≡ true) ↔ Longer d xs
+
+  pub case-says : (c : Case) → CaseIn d xs c → Says c
+  unfolding caseValue caseLonger
+  case-says Neither none-begins = record { value = go (d xs) refl; longer = (λ e. absurd (false≢true e), λ l. absurd (none-begins (l .next ∷ l .rest) (l .value) (l .is))) }
+    where
+      go : (o : Option ℕ) → d xs ≡ o → none ≡ d xs
+      go none e = sym e
+      go (some v) e = absurd (none-begins [] v (rw append-nil e))
+  case-says PrefixOnly (l, e) = record { value = sym e; longer = (λ _. l, λ _. refl) }
+  case-says (ExactOnly v) (h, none-longer) = record { value = sym h; longer = (λ e. absurd (false≢true e), λ l. absurd (none-longer l)) }
+  case-says (ExactAndPrefix v) (h, l) = record { value = sym h; longer = (λ _. l, λ _. refl) }
+
+  says-case : (c : Case) → Says c → CaseIn d xs c
+  unfolding caseValue caseLonger
+  says-case Neither s = go
+    where
+      go : (r : List ℕ) (v : ℕ) → Has d (xs ++ r) v → ⊥
+      go [] v h = none-not-some (s .value ∙ rw append-nil at h)
+      go (x ∷ r) v h = false≢true (s .longer .1 (record { next = x; rest = r; value = v; is = h }))
+  says-case PrefixOnly s = (s .longer .0 refl, sym (s .value))
+  says-case (ExactOnly v) s = (sym (s .value), λ l. false≢true (s .longer .1 l))
+  says-case (ExactAndPrefix v) s = (sym (s .value), s .longer .0 refl)
+
+  -- so only one case is true of the labels
+  pub one-case : (c e : Case) → CaseIn d xs c → CaseIn d xs e → c ≡ e
+  one-case c e p q =
+      let s = case-says c p in
+      let t = case-says e q in
+      same-case c e (s .value ∙ sym (t .value)) (same-test (caseLonger c) (caseLonger e) (λ h. t .longer .1 (s .longer .0 h)) (λ h. s .longer .1 (t .longer .0 h)))
 
 module _ {b : List ℕ} {d : PairSet} (known : KnownImage b d) (xs : List ℕ) where
   open KnownImage known using (image)
@@ -67,7 +105,14 @@ module _ {b : List ℕ} {d : PairSet} (known : KnownImage b d) (xs : List ℕ) w
     unfolding longerAt
     longer-at = simp ltb-is-true (wide-longer (hasLeaf b (image .slot xs)) refl, λ l. longer-wide l (hasLeaf b (image .slot xs)) refl)
 
-  pub probe-longer : {o : Option ℕ} → Leads d (image .slot) xs o → (probeAt b o .longer ≡ true) ↔ Longer d xs
-  unfolding probeAt probeAnswer
-  probe-longer (to-slot f) = longer-at f
-  probe-longer (nowhere n) = (λ e. absurd (false≢true e), λ l. absurd (n (prefix-part d xs (l .next ∷ []) (longer-prefix d xs l))))
+  longer-led : {o : Option ℕ} → Leads d (image .slot) xs o → (caseLonger (caseAt b o) ≡ true) ↔ Longer d xs
+  unfolding caseAt caseLonger
+  longer-led (to-slot f) = rw (case-longer (valueAt b (image .slot xs)) (longerAt b (image .slot xs))) (longer-at f)
+  longer-led (nowhere n) = (λ e. absurd (false≢true e), λ l. absurd (n (prefix-part d xs (l .next ∷ []) (longer-prefix d xs l))))
+
+  -- the case that lookup finds is true
+  pub true-case : CaseIn d xs (caseFor b xs)
+  unfolding caseFor
+  true-case =
+      let to = leads known xs in
+      says-case d xs (caseAt b (walkWithin b xs)) (record { value = value-there b (walkWithin b xs) ∙ value-led known xs to; longer = longer-led to })

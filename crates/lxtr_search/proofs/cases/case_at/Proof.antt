@@ -1,0 +1,20 @@
+-- Each return is the case of its value and its test.
+use borrow.Author.Needs.{needs}
+use Rattle.lxtr_spec.specs.Searches.{caseOf}
+use Rattle.lxtr_search.specs.CaseReturns.{case-told}
+use Rattle.lxtr_search.proofs.cases.case_at.Statement.{statement}
+use Rattle.lxtr_search.proofs.cases.case_at.Tie as tie
+
+pub case-at-spec : {M : Type 1} → statement M
+unfolding caseOf
+case-at-spec =
+    tie.close
+    (tie.spec
+    (λ c κs. search needs)
+    (λ c κs. search needs)
+    (λ c. search needs)
+    (λ c. search needs)
+    (λ c. search case-told)
+    (λ c. search case-told)
+    (λ c. search case-told)
+    (λ c. search case-told))

@@ -1,0 +1,24 @@
+-- The cases of a lookup as the code reads and makes them: by what a match or a test told.
+use Prim.Native.Nat.{ℕ}
+use mathlib.Core.Path.{_≡_, sym, ap, ap₂, _∙_}
+use mathlib.Core.List.{List}
+use mathlib.Core.Option.{Option, some}
+use mathlib.Core.Bool.{Bool}
+use Rattle.lxtr_spec.specs.Walks.{valueAt, longerAt}
+use Rattle.lxtr_spec.specs.Searches.{caseValue, caseLonger, caseOf, caseAt}
+use Rattle.lxtr_spec.specs.Answers.{found}
+use Rattle.lxtr_spec.specs.declared.Found.{Found}
+use Rattle.lxtr_spec.specs.declared.Case.{Case}
+
+-- the case c is e
+module _ (c e : Case) (told : c ≡ e) where
+  pub value-told : (o : Option ℕ) → o ≡ caseValue e → o ≡ caseValue c
+  value-told o h = h ∙ ap caseValue (sym told)
+
+  pub longer-told : (l : Bool) → l ≡ caseLonger e → l ≡ caseLonger c
+  longer-told l h = h ∙ ap caseLonger (sym told)
+
+-- the value f at slot n is g, and the test l whether longer keys exist gave t
+pub case-told : (b : List ℕ) (n : ℕ) (f g : Found) (l t : Bool) (c : Case) → found f ≡ valueAt b n → l ≡ longerAt b n → f ≡ g → l ≡ t → c ≡ caseOf (found g) t → c ≡ caseAt b (some n)
+unfolding caseAt
+case-told b n f g l t c value longer told test h = h ∙ ap₂ caseOf (sym (ap found told) ∙ value) (sym test ∙ longer)
