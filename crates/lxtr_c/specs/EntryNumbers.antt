@@ -1,9 +1,9 @@
 -- The number that a C function returns is the number of the operation's answer.
 use Prim.Native.Nat.{ℕ, _*_, _/_, _^_, _<_}
 use native.Mathlib.Omega.{arith}
-use mathlib.Core.Path.{_≡_, refl, sym, ap, _∙_}
+use mathlib.Core.Path.{_≡_, refl, sym, ap, ap₂, _∙_}
 use mathlib.Core.Logic.{_≢_}
-use mathlib.Core.Option.{some}
+use mathlib.Core.Option.{Option}
 use mathlib.Core.List.{List}
 use mathlib.Core.Bool.{Bool, false}
 use lib.ListN.{length}
@@ -22,14 +22,13 @@ use Rattle.lxtr_spec.specs.HostNumbers.{hostNumber, valueNumbered, faultNumbere
 use Rattle.lxtr_laws.specs.Limit.{length-fits-byte}
 use Rattle.lxtr_laws.specs.RefusalChains.{stands}
 use Rattle.lxtr_laws.specs.Cases.{value-there}
-use Rattle.lxtr_laws.specs.SearchReturns.{lookup-refused, lookup-nowhere, lookup-reached}
+use Rattle.lxtr_laws.specs.SearchReturns.{lookup-refused, lookup-passed}
 use Rattle.lxtr_search.specs.Kept.{longest-bytes, longest-limit}
 use Rattle.lxtr_spec.specs.declared.Verdict.{Verdict}
 use Rattle.lxtr_spec.specs.declared.Fault.{Fault}
 use Rattle.lxtr_spec.specs.declared.Found.{Found}
 use Rattle.lxtr_spec.specs.declared.Found.the-variants.{Is, Nothing}
 use Rattle.lxtr_spec.specs.declared.Highest.{Highest}
-use Rattle.lxtr_spec.specs.declared.Case.the-variants.{Neither}
 use Rattle.lxtr_spec.specs.declared.Lookup.{Lookup}
 use Rattle.lxtr_spec.specs.declared.Prefixes.{Prefixes}
 use Rattle.lxtr_spec.specs.declared.Why.{Why}
@@ -59,17 +58,20 @@ module _ (b : List ℕ) where
     module _ (r n : ℕ) (known : r ≡ searchRefusal b q) where
       pub exact-refused : r ≢ 0 → n ≡ hostNumber r false false 0 → n ≡ exactNumber b q
       unfolding exactNumber exactNumbered caseValue valueNumbered
-      exact-refused h e = e ∙ ap exactNumbered (lookup-refused b q r known h (record { refusal = r; case = Neither }) refl)
+      exact-refused h e = e ∙ ap exactNumbered (lookup-refused b q r known h)
 
       module _ (z : r ≡ 0) (f : Found) (walked : found f ≡ walkWithin b (labelsOf q)) where
+        by-value : valueNumbered 0 false (valueReached b (found f)) ≡ exactNumber b q
+        unfolding exactNumber exactNumbered
+        by-value = ap₂ (λ (k : ℕ) (v : Option ℕ). valueNumbered k false v) (sym z) (sym (value-there b (found f))) ∙ ap exactNumbered (lookup-passed b q r known z f (caseAt b (found f)) walked refl)
+
         pub exact-nowhere : f ≡ Nothing → n ≡ hostNumber 0 false false 0 → n ≡ exactNumber b q
-        unfolding exactNumber exactNumbered caseValue valueNumbered
-        exact-nowhere h e = e ∙ ap exactNumbered (lookup-nowhere b q r known z f walked (record { refusal = 0; case = Neither }) h refl)
+        unfolding valueNumbered valueReached
+        exact-nowhere h e = e ∙ rw h at by-value
 
         pub exact-reached : (m : ℕ) (v : Found) → f ≡ Is m → found v ≡ valueAt b m → n ≡ valueNumbered 0 false (found v) → n ≡ exactNumber b q
-        unfolding exactNumber exactNumbered valueReached
-        exact-reached m v h value e =
-            e ∙ ap (valueNumbered 0 false) (value ∙ sym (value-there b (some m))) ∙ ap exactNumbered (lookup-reached b q r known z f walked (caseAt b (some m)) m h refl)
+        unfolding valueReached
+        exact-reached m v h value e = e ∙ ap (valueNumbered 0 false) value ∙ rw h at by-value
 
     pub probe-number : (a : Lookup) (n : ℕ) → a ≡ lookupOf b q → n ≡ probeNumbered a → n ≡ probeNumber b q
     unfolding probeNumber

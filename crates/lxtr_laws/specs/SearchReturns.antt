@@ -3,7 +3,6 @@ use Prim.Native.Nat.{ℕ, _*_, _%_}
 use mathlib.Core.Path.{_≡_, refl, sym, _∙_}
 use mathlib.Core.Logic.{_↔_}
 use mathlib.Core.List.{List, []}
-use mathlib.Core.Option.{some}
 use lib.ListN.{length, take}
 use borrow.Author.Tests.{ne-eqb}
 use Rattle.lxtr_spec.specs.Labels.{labelsOf}
@@ -12,14 +11,12 @@ use Rattle.lxtr_spec.specs.Walks.{walkWithin}
 use Rattle.lxtr_spec.specs.Searches.{queryRefusal, searchRefusal, caseAt, caseFor, lookupOf, prefixMatches, prefixesAnswer, prefixesOf, LongestAnswer, lastLength, longestLength, longestOf}
 use Rattle.lxtr_spec.specs.Answers.{found}
 use Rattle.lxtr_spec.specs.declared.Found.{Found}
-use Rattle.lxtr_spec.specs.declared.Found.the-variants.{Is, Nothing}
 use Rattle.lxtr_spec.specs.declared.Case.{Case}
 use Rattle.lxtr_spec.specs.declared.Case.the-variants.{Neither}
 use Rattle.lxtr_spec.specs.declared.Lookup.{Lookup}
 use Rattle.lxtr_spec.specs.declared.Prefixes.{Prefixes}
 use Rattle.lxtr_laws.specs.RefusalChains.{none-refused, none-first, first-stands, stands}
 use Rattle.lxtr_laws.specs.RangeTests.{tests}
-use Rattle.lxtr_laws.specs.Stepping.{found-is, found-none}
 use Rattle.lxtr_laws.specs.Passed.{Passed, header-passed}
 
 pub query-passes : (q : List ℕ) → (queryRefusal q ≡ 0) ↔ (length q % 4 ≡ 0)
@@ -48,9 +45,9 @@ module _ (b q : List ℕ) (r : ℕ) where
 
     -- the answers after a refusal
     module _ (h : r ≡ 0 → ⊥) where
-      pub lookup-refused : (a : Lookup) → a ≡ record { refusal = r; case = Neither } → a ≡ lookupOf b q
+      pub lookup-refused : _≡_ {A = Lookup} (record { refusal = r; case = Neither }) (lookupOf b q)
       unfolding lookupOf
-      lookup-refused a e = rw (← known, stands r (caseFor b (labelsOf q)) Neither h) e
+      lookup-refused = rw (← known, stands r (caseFor b (labelsOf q)) Neither h)
 
       pub prefixes-refused : (p : Prefixes) → p ≡ prefixesAnswer r [] → p ≡ prefixesOf b q
       unfolding prefixesOf
@@ -62,14 +59,9 @@ module _ (b q : List ℕ) (r : ℕ) where
 
     -- and without one
     module _ (z : r ≡ 0) where
-      module _ (f : Found) (walked : found f ≡ walkWithin b (labelsOf q)) where
-        pub lookup-nowhere : (a : Lookup) → f ≡ Nothing → a ≡ record { refusal = 0; case = Neither } → a ≡ lookupOf b q
-        unfolding lookupOf caseFor caseAt unlessRefused
-        lookup-nowhere a h e = rw (sym known ∙ z, found-none f (walkWithin b (labelsOf q)) walked h) e
-
-        pub lookup-reached : (c : Case) (n : ℕ) → f ≡ Is n → c ≡ caseAt b (some n) → _≡_ {A = Lookup} (record { refusal = 0; case = c }) (lookupOf b q)
-        unfolding lookupOf caseFor unlessRefused
-        lookup-reached c n h e = rw (sym known ∙ z, found-is f n (walkWithin b (labelsOf q)) walked h, e)
+      pub lookup-passed : (f : Found) (c : Case) → found f ≡ walkWithin b (labelsOf q) → c ≡ caseAt b (found f) → _≡_ {A = Lookup} (record { refusal = r; case = c }) (lookupOf b q)
+      unfolding lookupOf caseFor unlessRefused
+      lookup-passed f c walked e = rw (z, sym known ∙ z, ← walked, e)
 
       pub prefixes-passed : (p : Prefixes) → p ≡ prefixesAnswer 0 (prefixMatches b q) → p ≡ prefixesOf b q
       unfolding prefixesOf unlessRefused

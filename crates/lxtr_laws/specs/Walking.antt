@@ -103,6 +103,13 @@ module _ (b xs : List ℕ) where
         λ w. record { so-far = omega (arith, length-snoc xs x); below = w .below; reached = same ∙ w .reached },
       )
 
+-- the slot, if there is one, is one of the image's
+pub record IsSlot (b : List ℕ) (o : Option ℕ) : Type 0 where
+  pub below : (n : ℕ) → o ≡ some n → n < slotCount b
+
+pub slot-below : (b : List ℕ) (f : Found) (n : ℕ) → IsSlot b (found f) → f ≡ Is n → n < slotCount b
+slot-below b f n is h = is .below n (ap found h)
+
 -- the walk within the limit
 module _ (b xs : List ℕ) where
   pub within : length xs ≤ maxLabels → walkWithin b xs ≡ walk b 1 xs
@@ -132,3 +139,6 @@ module _ (b xs : List ℕ) where
 
   pub within-below : (f : Found) (n : ℕ) → found f ≡ walkWithin b xs → Passed b → f ≡ Is n → n < slotCount b
   within-below f n answer ok h = walk-below b xs ok (last xs) n (within-is n .0 (found-is f n (walkWithin b xs) answer h) .1)
+
+  pub within-slot : (f : Found) → found f ≡ walkWithin b xs → Passed b → IsSlot b (found f)
+  within-slot f answer ok = record { below = λ n e. walk-below b xs ok (last xs) n (within-is n .0 (sym answer ∙ e) .1) }

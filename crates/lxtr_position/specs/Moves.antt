@@ -25,6 +25,7 @@ use lib.ListN.{length}
 use Rattle.lxtr_position.specs.Means.{positionMeans}
 use Rattle.lxtr_position.specs.declared.Position.{Position}
 use Rattle.lxtr_laws.specs.Passed.{Passed, header-passed}
+use Rattle.lxtr_laws.specs.Walking.{IsSlot}
 use Rattle.lxtr_laws.specs.Limit.{length-fits-byte}
 use Rattle.lxtr_laws.specs.RefusalChains.{stands}
 use Rattle.lxtr_laws.specs.Tests.{outcome, not-is-true, not-is-false}
@@ -133,20 +134,16 @@ unfolding movedTo
 move-refused b p next r m header h e = rw (← header, stands r (cond (isPlaced b (positionMeans p)) next (positionMeans p)) (positionMeans p) h) e
 
 -- the slot that all labels reach is one of the image's
-pub reached-below : (b : List ℕ) (p : Position) (f : Found) (n : ℕ) → found f ≡ reachedSlot b (positionMeans p) → f ≡ Is n → n < slotCount b
-reached-below b p f n answer h = let ((below, all), same) = reached-is b (positionMeans p) n .0 (found-is f n (reachedSlot b (positionMeans p)) answer h) in omega (arith, some-same same)
+pub reached-slot : (b : List ℕ) (p : Position) (f : Found) → found f ≡ reachedSlot b (positionMeans p) → IsSlot b (found f)
+reached-slot b p f answer = record { below = λ n e. let ((below, all), same) = reached-is b (positionMeans p) n .0 (sym answer ∙ e) in omega (arith, some-same same) }
 
--- the lookup a of a position; f is the slot that all labels reach
+-- the lookup of a position; f is the slot that all labels reach, and c the case there
 module _ (b : List ℕ) (p : Position) (r : ℕ) (header : r ≡ headerRefusal b) where
-  pub position-refused : (a : Lookup) → r ≢ 0 → a ≡ record { refusal = r; case = Neither } → a ≡ positionLookupOf b (positionMeans p)
+  pub position-refused : r ≢ 0 → _≡_ {A = Lookup} (record { refusal = r; case = Neither }) (positionLookupOf b (positionMeans p))
   unfolding positionLookupOf
-  position-refused a h e = rw (← header, stands r (caseAt b (reachedSlot b (positionMeans p))) Neither h) e
+  position-refused h = rw (← header, stands r (caseAt b (reachedSlot b (positionMeans p))) Neither h)
 
-  module _ (z : r ≡ 0) (f : Found) (place : found f ≡ reachedSlot b (positionMeans p)) where
-    pub position-nowhere : (a : Lookup) → f ≡ Nothing → a ≡ record { refusal = 0; case = Neither } → a ≡ positionLookupOf b (positionMeans p)
-    unfolding positionLookupOf caseAt unlessRefused
-    position-nowhere a h e = rw (sym header ∙ z, found-none f (reachedSlot b (positionMeans p)) place h) e
-
-    pub position-reached : (c : Case) (n : ℕ) → f ≡ Is n → c ≡ caseAt b (some n) → _≡_ {A = Lookup} (record { refusal = 0; case = c }) (positionLookupOf b (positionMeans p))
-    unfolding positionLookupOf unlessRefused
-    position-reached c n h e = rw (sym header ∙ z, found-is f n (reachedSlot b (positionMeans p)) place h, e)
+  pub position-passed : (f : Found) (c : Case) → r ≡ 0 → found f ≡ reachedSlot b (positionMeans p) → c ≡ caseAt b (found f)
+      → _≡_ {A = Lookup} (record { refusal = r; case = c }) (positionLookupOf b (positionMeans p))
+  unfolding positionLookupOf unlessRefused
+  position-passed f c z place e = rw (z, sym header ∙ z, ← place, e)

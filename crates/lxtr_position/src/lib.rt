@@ -14,7 +14,7 @@ use lxtr_header::header_refusal;
 use lxtr_image::nodes::parent_of;
 use lxtr_image::sections::slot_count;
 use lxtr_search::cases::case_at;
-use lxtr_search::cases::nothing_found;
+use lxtr_spec::Case;
 use lxtr_spec::Found;
 use lxtr_spec::Lookup;
 use lxtr_spec::MAX_LABELS;
@@ -177,14 +177,14 @@ impl Position {
     {
         let refusal = header_refusal(image);
         if refusal != 0 {
-            return nothing_found(refusal);
+            return Lookup {
+                refusal,
+                case: Case::Neither,
+            };
         }
-        let Found::Is(n) = self.reached_slot(image) else {
-            return nothing_found(0);
-        };
         Lookup {
-            refusal: 0,
-            case: case_at(image, n),
+            refusal,
+            case: case_at(image, self.reached_slot(image)),
         }
     }
 }

@@ -2,13 +2,15 @@
 use Prim.Native.Nat.{ℕ}
 use mathlib.Core.Path.{_≡_, sym, ap, ap₂, _∙_}
 use mathlib.Core.List.{List}
-use mathlib.Core.Option.{Option, some}
+use mathlib.Core.Option.{Option}
 use mathlib.Core.Bool.{Bool}
 use Rattle.lxtr_spec.specs.Walks.{valueAt, longerAt}
 use Rattle.lxtr_spec.specs.Searches.{caseValue, caseLonger, caseOf, caseAt}
 use Rattle.lxtr_spec.specs.Answers.{found}
 use Rattle.lxtr_spec.specs.declared.Found.{Found}
+use Rattle.lxtr_spec.specs.declared.Found.the-variants.{Is, Nothing}
 use Rattle.lxtr_spec.specs.declared.Case.{Case}
+use Rattle.lxtr_spec.specs.declared.Case.the-variants.{Neither}
 
 -- the case c is e
 module _ (c e : Case) (told : c ≡ e) where
@@ -18,7 +20,13 @@ module _ (c e : Case) (told : c ≡ e) where
   pub longer-told : (l : Bool) → l ≡ caseLonger e → l ≡ caseLonger c
   longer-told l h = h ∙ ap caseLonger (sym told)
 
--- the value f at slot n is g, and the test l whether longer keys exist gave t
-pub case-told : (b : List ℕ) (n : ℕ) (f g : Found) (l t : Bool) (c : Case) → found f ≡ valueAt b n → l ≡ longerAt b n → f ≡ g → l ≡ t → c ≡ caseOf (found g) t → c ≡ caseAt b (some n)
-unfolding caseAt
-case-told b n f g l t c value longer told test h = h ∙ ap₂ caseOf (sym (ap found told) ∙ value) (sym test ∙ longer)
+-- s is the slot that a walk reached
+module _ (b : List ℕ) (s : Found) where
+  pub case-nowhere : s ≡ Nothing → Neither ≡ caseAt b (found s)
+  unfolding caseAt
+  case-nowhere nowhere = rw nowhere
+
+  -- its value f is g, and the test l whether longer keys exist gave t
+  pub case-told : (n : ℕ) (f g : Found) (l t : Bool) (c : Case) → s ≡ Is n → found f ≡ valueAt b n → l ≡ longerAt b n → f ≡ g → l ≡ t → c ≡ caseOf (found g) t → c ≡ caseAt b (found s)
+  unfolding caseAt
+  case-told n f g l t c reached value longer told test h = rw reached (h ∙ ap₂ caseOf (sym (ap found told) ∙ value) (sym test ∙ longer))

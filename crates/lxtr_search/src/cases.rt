@@ -1,24 +1,24 @@
 // The four cases of a lookup: which one a slot has, and what each says.
 ghost use mathlib.Core.Path.{_≡_};
-ghost use mathlib.Core.Option.{some};
-ghost use Prim.Native.Nat.{_<_};
 ghost use Rattle.lxtr_spec.specs.Searches.{caseValue, caseLonger, caseAt};
-ghost use Rattle.lxtr_spec.specs.declared.Case.the-variants.{Neither};
-ghost use Rattle.lxtr_spec.specs.Image.{slotCount};
 ghost use Rattle.lxtr_spec.specs.Answers.{found};
 ghost use Rattle.lxtr_laws.specs.Passed.{Passed};
+ghost use Rattle.lxtr_laws.specs.Walking.{IsSlot};
 use lxtr_spec::Case;
 use lxtr_spec::Found;
 use lxtr_spec::Lookup;
 use lxtr_walk::longer_at;
 use lxtr_walk::value_at;
 
-// The case at slot n.
-pub fn case_at(image: &[u8], n: u32) -> Case
+// The case at the slot that a walk reached; nothing, if it reached none.
+pub fn case_at(image: &[u8], slot: Found) -> Case
     requires { ⌜ Passed (now image) ⌝ }
-    requires { ⌜ n < slotCount (now image) ⌝ }
-    ensures { λ r. ⌜ r ≡ caseAt (now (image .entry)) (some n) ⌝ }
+    requires { ⌜ IsSlot (now image) (found slot) ⌝ }
+    ensures { λ r. ⌜ r ≡ caseAt (now (image .entry)) (found slot) ⌝ }
 {
+    let Found::Is(n) = slot else {
+        return Case::Neither;
+    };
     let longer = longer_at(image, n);
     let Found::Is(value) = value_at(image, n) else {
         if longer {
@@ -30,16 +30,6 @@ pub fn case_at(image: &[u8], n: u32) -> Case
         return Case::ExactAndPrefix(value);
     }
     Case::ExactOnly(value)
-}
-
-// The answer after a refusal, and when the walk fails.
-pub fn nothing_found(refusal: u8) -> Lookup
-    ensures { λ r. ⌜ r ≡ record { refusal = refusal; case = Neither } ⌝ }
-{
-    Lookup {
-        refusal,
-        case: Case::Neither,
-    }
 }
 
 // The value that a lookup found, or none.

@@ -1,16 +1,15 @@
 // Searches LXTR images: lookup, prefixes and longest match, for any bytes as image and query. The searches walk every image that
-// passes refusals 1 to 8, whether or not the check would accept it. Any caller may use them, and the value of a case and whether it
-// says that longer keys exist; the rest of `cases` and `matches` are for the crates that use this one.
+// passes refusals 1 to 8, whether or not the check would accept it. Any caller may use them, and `found_value` and `has_longer` of
+// `cases`; the rest of `cases`, and `matches`, are for the crates that use this one.
 pub mod cases; // the four cases of a lookup
 pub mod matches; // the prefixes of a query that have a value
 
 ghost use mathlib.Core.Path.{_≡_};
 ghost use Rattle.lxtr_spec.specs.Searches.{lookupOf, prefixesOf, longestOf};
 use crate::cases::case_at;
-use crate::cases::nothing_found;
 use crate::matches::longest_match;
 use crate::matches::put_prefixes;
-use lxtr_spec::Found;
+use lxtr_spec::Case;
 use lxtr_spec::LENGTH_COUNT;
 use lxtr_spec::Lookup;
 use lxtr_spec::Prefixes;
@@ -23,14 +22,14 @@ pub fn lookup(image: &[u8], query: &[u8]) -> Lookup
 {
     let refusal = search_refusal(image, query);
     if refusal != 0 {
-        return nothing_found(refusal);
+        return Lookup {
+            refusal,
+            case: Case::Neither,
+        };
     }
-    let Found::Is(n) = walk_within(image, query) else {
-        return nothing_found(0);
-    };
     Lookup {
-        refusal: 0,
-        case: case_at(image, n),
+        refusal,
+        case: case_at(image, walk_within(image, query)),
     }
 }
 

@@ -19,7 +19,6 @@ use Rattle.lxtr_spec.specs.Image.{slotCount, parent}
 use Rattle.lxtr_spec.specs.Refusals.{unlessRefused, headerRefusal}
 use Rattle.lxtr_spec.specs.Walks.{walk, walkWithin}
 use Rattle.lxtr_spec.specs.Searches.{caseAt, caseFor, lookupOf}
-use Rattle.lxtr_spec.specs.Meaning.{CaseIn}
 use Rattle.lxtr_spec.specs.declared.Case.{Case}
 use Rattle.lxtr_spec.specs.declared.Case.the-variants.{Neither}
 use Rattle.lxtr_spec.specs.declared.Lookup.{Lookup}
@@ -215,7 +214,7 @@ module _ (b : List ℕ) (refused : headerRefusal b ≢ 0) where
   unmoved-by (m ∷ ms) p = ap (λ (r : TypingPosition). movedBy (library definedMoves) b r ms) (unmoved p m) ∙ unmoved-by ms p
 
   lookup-refuses : (q : List ℕ) → _≡_ {A = Lookup} (record { refusal = headerRefusal b; case = Neither }) (lookupOf b q)
-  lookup-refuses q = lookup-refused b q (headerRefusal b) (header-stands b q (headerRefusal b) refl refused) refused (record { refusal = headerRefusal b; case = Neither }) refl
+  lookup-refuses q = lookup-refused b q (headerRefusal b) (header-stands b q (headerRefusal b) refl refused) refused
 
 -- a place that isn't below N
 stays-outside : (b : List ℕ) (p : TypingPosition) → headerRefusal b ≡ 0 → slotCount b ≤ p .slot → Stays definedMoves b p 0

@@ -1,7 +1,7 @@
--- A refusal, or a walk that fails, gives the case that says nothing; otherwise it is the case at the slot reached.
+-- A refusal gives the case that says nothing; otherwise it is the case at the slot where the walk ends.
 use borrow.Author.Needs.{needs}
-use Rattle.lxtr_laws.specs.Walking.{within-below}
-use Rattle.lxtr_laws.specs.SearchReturns.{search-passed, lookup-refused, lookup-nowhere, lookup-reached}
+use Rattle.lxtr_laws.specs.Walking.{within-slot}
+use Rattle.lxtr_laws.specs.SearchReturns.{search-passed, lookup-refused, lookup-passed}
 use Rattle.lxtr_search.proofs.lookup.Statement.{statement}
 use Rattle.lxtr_search.proofs.lookup.Tie as tie
 
@@ -10,12 +10,7 @@ lookup-spec =
     tie.close
     (tie.spec
     (λ c κs. search needs)
-    (λ c κs. search needs)
     (λ c. search lookup-refused)
     (λ c κs. search search-passed)
-    (λ c. search needs)
-    (λ c. search needs)
-    (λ c κs. search needs)
-    (λ c. search lookup-nowhere)
-    (λ c κs. (search search-passed, search (within-below, search-passed)))
-    (λ c. search lookup-reached))
+    (λ c κs. (search search-passed, search (within-slot, search-passed)))
+    (λ c. search lookup-passed))

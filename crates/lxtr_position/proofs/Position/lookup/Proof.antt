@@ -1,6 +1,6 @@
--- A refusal, or no place, gives the case that says nothing; otherwise it is the case at the slot.
+-- A refusal gives the case that says nothing; otherwise it is the case at the slot that all labels reach.
 use borrow.Author.Needs.{needs}
-use Rattle.lxtr_position.specs.Moves.{header-allows, header-long, reached-below, position-refused, position-nowhere, position-reached}
+use Rattle.lxtr_position.specs.Moves.{header-allows, header-long, reached-slot, position-refused, position-passed}
 use Rattle.lxtr_position.proofs.Position.lookup.Statement.{statement}
 use Rattle.lxtr_position.proofs.Position.lookup.Tie as tie
 
@@ -9,12 +9,7 @@ lookup-spec =
     tie.close
     (tie.spec
     (λ c κs. search needs)
-    (λ c κs. search needs)
     (λ c. search position-refused)
     (λ c κs. search header-long)
-    (λ c. search needs)
-    (λ c. search needs)
-    (λ c κs. search needs)
-    (λ c. search position-nowhere)
-    (λ c κs. (search header-allows, search reached-below))
-    (λ c. search position-reached))
+    (λ c κs. (search header-allows, search reached-slot))
+    (λ c. search position-passed))
