@@ -64,7 +64,7 @@ pub extern "C" fn lxtr_highest(image: &[u8]) -> u64
     value_numbered(answer.refusal, false, value)
 }
 
-// Exact: the value of a lookup, if there is one. It does not call the lookup, which also reads the children list of the slot.
+// Exact: the value of a lookup, if there is one. It does not call the lookup, which also reads the width of a list.
 #[no_mangle]
 pub extern "C" fn lxtr_exact(image: &[u8], query: &[u8]) -> u64
     ensures { λ r. ⌜ r ≡ exactNumber (now (image .entry)) (now (query .entry)) ⌝ }

@@ -8,7 +8,7 @@ use mathlib.Core.Option.{Option}
 use lib.ListN.{length, take, drop}
 use lib.Dec.{ltb}
 use Rattle.lxtr_spec.specs.Labels.{labelsOf, Pair}
-use Rattle.lxtr_spec.specs.Searches.{searchRefusal, caseValue, valueFor, prefixesAnswer}
+use Rattle.lxtr_spec.specs.Searches.{searchRefusal, caseValue, valueWithin, prefixesAnswer}
 use Rattle.lxtr_spec.specs.Completions.{listingOf, roomFor}
 use Rattle.lxtr_spec.specs.Sets.{PairSet, ImageOf}
 use Rattle.lxtr_spec.specs.Meaning.{CaseIn, PrefixesIn, LongestIn, Lists, FittingFront}
@@ -60,4 +60,4 @@ Demand2 o = (b : List ℕ) (d : PairSet) (q : List ℕ) → ImageOf b d → leng
 -- the pairs that lookup finds. So prefixes are the lengths and values at which lookup finds a value, and longest is the last of
 -- them. (Whether lookup says prefix is decided by the width of a list, and no other search reads it.)
 abbrev pub SearchesAgree : Type 0
-SearchesAgree = (b q : List ℕ) → searchRefusal b q ≡ 0 → Searched defined b (valueFor b) q (labelsOf q)
+SearchesAgree = (b q : List ℕ) → searchRefusal b q ≡ 0 → Searched defined b (valueWithin b) q (labelsOf q)

@@ -15,7 +15,7 @@ use Rattle.lxtr_spec.specs.Refusals.{refuseIf, firstRefusal, unlessRefused, too
 use Rattle.lxtr_spec.specs.FaultPlaces.{faultIf, labelFault, slotFault, offsetFault, entryFaultOf, entryFault, isEntry, unlisted, unlistedFault, childlessFault, listFault, reachFault, faultBy, faultOf}
 use Rattle.lxtr_spec.specs.HighestValues.{larger, highestBelow, highestOf}
 use Rattle.lxtr_spec.specs.Walks.{step, stepBy, walk, walkWithin, leafValue, valueAt, valueReached, valueOf, longerAt}
-use Rattle.lxtr_spec.specs.Searches.{queryRefusal, searchRefusal, caseValue, caseLonger, caseOf, caseAt, caseFor, lookupOf, lengthMatch, matchAt, matches, prefixMatches, prefixesAnswer, prefixesOf, lastLength, longestLength, longestOf}
+use Rattle.lxtr_spec.specs.Searches.{queryRefusal, searchRefusal, caseValue, caseLonger, caseOf, caseAt, caseWithin, lookupOf, lengthMatch, matchAt, matches, prefixMatches, prefixesAnswer, prefixesOf, lastLength, longestLength, longestOf}
 use Rattle.lxtr_spec.specs.Positions.{TypingPosition, freshPosition, allWalked, slotBy, oneMore, maxTyped, pushed, oneLess, takenBack, isPlaced, moveAnswer, movedTo, pushOf, backOf, reachedSlot, positionLookupOf}
 use Rattle.lxtr_spec.specs.Reasons.{endedWith, stoppedAt, reasonFrom, reasonOf, whyOf, reasonNumber, reasonPlace}
 use Rattle.lxtr_spec.specs.Completions.{entryPairs, listFrom, pairsAt, pairsBelow, recordOf, recordsOf, fitting, listingOf, listedIn, completionAnswer, written, completionRefusal, completionOf}
@@ -25,10 +25,10 @@ use Rattle.lxtr_spec.specs.CodeMaps.{insert, insertAll, labelsUsed, occurrences
 use Rattle.lxtr_spec.specs.Placing.{baseAt, checkAt, isTakenFrom2, isFree, fits, firstFitFrom, firstFit, nextCode, childCodes, below, endValue, putChild, putChildren, putParent, settle, intoEach, place}
 use Rattle.lxtr_spec.specs.Builds.{headerBytes, mapBytes, imageBytes, slotsUsed, isChild, childBy, childrenOf, childrenIn, offsetsFrom, imageIn, slotsIn, placedIn, withRoom, fromPlaced, fromLabels, fromKeys, outcomeOf, answered, workAfter, buildOf}
 use Rattle.lxtr_spec.specs.Samples.{p1, p2, nodes3, offsets3, children3, labels3, p3, p7, p8-check, p8-slot, p9-labels, p9-longer, p10, p11, keyRecords, keyList}
-use Rattle.lxtr_spec.specs.declared.Fault.{Fault}
-use Rattle.lxtr_spec.specs.declared.Reason.{Reason}
 use Rattle.lxtr_spec.specs.declared.Case.{Case}
 use Rattle.lxtr_spec.specs.declared.Case.the-variants.{Neither}
+use Rattle.lxtr_spec.specs.declared.Fault.{Fault}
+use Rattle.lxtr_spec.specs.declared.Reason.{Reason}
 use Rattle.lxtr_spec.specs.declared.Reason.the-variants.{NoReason}
 use Rattle.lxtr_laws.specs.ExampleTables as tables
 pub use Rattle.lxtr_laws.specs.ExampleTables.{_and_}
@@ -59,7 +59,7 @@ pub data Example : Type 0 where
   longest : List ℕ → List ℕ → List ℕ → Example
   -- image, moves from a fresh typing position; case, number for the host program
   typed : List ℕ → List Move → Case → ℕ → Example
-  -- an image over which a typing position stays and its lookup says nothing; the refusal or 0
+  -- an image over which a typing position stays and its lookup finds nothing; the refusal or 0
   position-stays : List ℕ → TypingPosition → ℕ → Example
   -- image, query, why it is found or not, number for the host program; and a refused image or query, its refusal
   why : List ℕ → List ℕ → Reason → ℕ → Example
@@ -145,5 +145,5 @@ AllHold es = tables.AllHold Holds es
 
 -- every definition that a row runs: to unfold this name is to unfold them all
 unfoldable pub computing : Unit {0}
-unfolding anyBelow countBelow firstFrom firstBelow le32 be32 leBytes beBytes leWords beWords isScalar maxLabels labelsFrom labelsOf slotUnder codeUnder magic version slotCount childCount mapLength baseWord checkWord isLeaf hasLeaf parent hasParent base valueNumber slotFrom codeTo offset child listWidth mapVersion labelCount labelAt labelOfCode codeFrom codeOf refuseIf firstRefusal unlessRefused tooShort byteDiffers magicDiffers versionWrong reservedSet sizesWrong lengthWrong mapWrong offsetEndsWrong headerRefusal sameLabel labelWrong labelsWrong isUsedFrom2 isUsed ownCode bothZero usedSlotWrong endExists flagWrong slotWrong slotsWrong offsetFalls usedCount entryWrong codeNotAbove entryWrongIn entriesWrong childless rootWrong listsWrong reaches unreachable someUnreachable bodyRefusal imageRefusal isEnd endCount checkOf faultIf labelFault slotFault offsetFault entryFaultOf entryFault isEntry unlisted unlistedFault childlessFault listFault reachFault faultBy faultOf larger highestBelow highestOf step stepBy walk walkWithin leafValue valueAt valueReached valueOf longerAt queryRefusal searchRefusal caseValue caseLonger caseOf caseAt caseFor lookupOf lengthMatch matchAt matches prefixMatches prefixesAnswer prefixesOf lastLength longestLength longestOf freshPosition allWalked slotBy oneMore maxTyped pushed oneLess takenBack isPlaced moveAnswer movedTo pushOf backOf reachedSlot positionLookupOf moved movedBy endedWith stoppedAt reasonFrom reasonOf whyOf reasonNumber reasonPlace concatFrom entryPairs listFrom pairsAt pairsBelow recordOf recordsOf fitting listingOf listedIn completionAnswer written completionRefusal completionOf hostNumber valueNumbered checkNumber exactNumbered probeNumbered exactNumber probeNumber longestNumber placeNumber faultNumbered faultNumber highestNumber reasonNumbered whyNumber placeWords alternately atFront placesAfter prefixesNumber hostPrefixesOf positionNumber positionOf hostFresh hostPushOf hostBackOf positionProbeNumber completionNumber hostCompletionOf builtNumber hostBuildOf comesBefore listVersion keyCount keyLength keyLabel nextKey keyLabels keyAt keysFrom pairsOf noScalarAt notAbove keyRefusal keysRefusal listRefusal insert insertAll labelsUsed occurrences frequency goesBefore rankIn ranked mapOf codeIn labelWith baseAt checkAt isTakenFrom2 isFree fits firstFitFrom firstFit nextCode childCodes below endValue putChild putChildren putParent settle intoEach place headerBytes mapBytes imageBytes slotsUsed isChild childBy childrenOf childrenIn offsetsFrom imageIn slotsIn placedIn withRoom fromPlaced fromLabels fromKeys outcomeOf answered workAfter buildOf keyRecords keyList p1 p2 nodes3 offsets3 children3 labels3 p3 p7 p8-check p8-slot p9-labels p9-longer p10 p11
+unfolding anyBelow countBelow firstFrom firstBelow le32 be32 leBytes beBytes leWords beWords isScalar maxLabels labelsFrom labelsOf slotUnder codeUnder magic version slotCount childCount mapLength baseWord checkWord isLeaf hasLeaf parent hasParent base valueNumber slotFrom codeTo offset child listWidth mapVersion labelCount labelAt labelOfCode codeFrom codeOf refuseIf firstRefusal unlessRefused tooShort byteDiffers magicDiffers versionWrong reservedSet sizesWrong lengthWrong mapWrong offsetEndsWrong headerRefusal sameLabel labelWrong labelsWrong isUsedFrom2 isUsed ownCode bothZero usedSlotWrong endExists flagWrong slotWrong slotsWrong offsetFalls usedCount entryWrong codeNotAbove entryWrongIn entriesWrong childless rootWrong listsWrong reaches unreachable someUnreachable bodyRefusal imageRefusal isEnd endCount checkOf faultIf labelFault slotFault offsetFault entryFaultOf entryFault isEntry unlisted unlistedFault childlessFault listFault reachFault faultBy faultOf larger highestBelow highestOf step stepBy walk walkWithin leafValue valueAt valueReached valueOf longerAt queryRefusal searchRefusal caseValue caseLonger caseOf caseAt caseWithin lookupOf lengthMatch matchAt matches prefixMatches prefixesAnswer prefixesOf lastLength longestLength longestOf freshPosition allWalked slotBy oneMore maxTyped pushed oneLess takenBack isPlaced moveAnswer movedTo pushOf backOf reachedSlot positionLookupOf moved movedBy endedWith stoppedAt reasonFrom reasonOf whyOf reasonNumber reasonPlace concatFrom entryPairs listFrom pairsAt pairsBelow recordOf recordsOf fitting listingOf listedIn completionAnswer written completionRefusal completionOf hostNumber valueNumbered checkNumber exactNumbered probeNumbered exactNumber probeNumber longestNumber placeNumber faultNumbered faultNumber highestNumber reasonNumbered whyNumber placeWords alternately atFront placesAfter prefixesNumber hostPrefixesOf positionNumber positionOf hostFresh hostPushOf hostBackOf positionProbeNumber completionNumber hostCompletionOf builtNumber hostBuildOf comesBefore listVersion keyCount keyLength keyLabel nextKey keyLabels keyAt keysFrom pairsOf noScalarAt notAbove keyRefusal keysRefusal listRefusal insert insertAll labelsUsed occurrences frequency goesBefore rankIn ranked mapOf codeIn labelWith baseAt checkAt isTakenFrom2 isFree fits firstFitFrom firstFit nextCode childCodes below endValue putChild putChildren putParent settle intoEach place headerBytes mapBytes imageBytes slotsUsed isChild childBy childrenOf childrenIn offsetsFrom imageIn slotsIn placedIn withRoom fromPlaced fromLabels fromKeys outcomeOf answered workAfter buildOf keyRecords keyList p1 p2 nodes3 offsets3 children3 labels3 p3 p7 p8-check p8-slot p9-labels p9-longer p10 p11
 computing = tt

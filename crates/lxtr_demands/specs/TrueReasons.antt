@@ -9,7 +9,7 @@ use mathlib.Core.Option.{some, none}
 use lib.ListN.{length, take, getD}
 use Rattle.lxtr_spec.specs.Labels.{maxLabels, labelsOf}
 use Rattle.lxtr_spec.specs.Walks.{walk}
-use Rattle.lxtr_spec.specs.Searches.{searchRefusal, caseValue, valueFor, lookupOf}
+use Rattle.lxtr_spec.specs.Searches.{searchRefusal, caseValue, valueWithin, lookupOf}
 use Rattle.lxtr_spec.specs.Sets.{PairSet, Has, Prefix, Listed, ImageOf}
 use Rattle.lxtr_spec.specs.Meaning.{Longer}
 use Rattle.lxtr_spec.specs.declared.Reason.{Reason}
@@ -35,10 +35,10 @@ pub record StopsAt (b xs : List ℕ) (i : ℕ) : Type 0 where
 -- What each reason says of the labels xs, over any bytes. Only a refused query has no reason.
 abbrev pub TrueReason : List ℕ → List ℕ → Reason → Type 0
 TrueReason b xs NoReason = ⊥
-TrueReason b xs IsFound = (v : ℕ) × (valueFor b xs ≡ some v)
+TrueReason b xs IsFound = (v : ℕ) × (valueWithin b xs ≡ some v)
 TrueReason b xs (NotListed i) = StopsAt b xs i × (ListedAt b xs i → ⊥)
 TrueReason b xs (NoStep i) = StopsAt b xs i × ListedAt b xs i
-TrueReason b xs NoKeyEnds = (length xs ≤ maxLabels) × Walks b xs × (valueFor b xs ≡ none)
+TrueReason b xs NoKeyEnds = (length xs ≤ maxLabels) × Walks b xs × (valueWithin b xs ≡ none)
 TrueReason b xs TooLong = maxLabels < length xs
 
 -- The same in terms of the set d: some key begins with the first i labels (or i is 0), and none begins with one label more.

@@ -83,7 +83,7 @@ definedMoves = record { fresh = freshPosition; push = pushOf; back = backOf; loo
 abbrev pub library : MoveOperations → PositionProgram
 library o = record { Position = TypingPosition; Answer = Lookup; fresh = o .fresh; pushed = λ b p x. o .push b p x .position; takenBack = λ b p. o .back b p .position; answer = o .lookup; lookup = lookupOf }
 
--- p stays, and its lookup says nothing, with this refusal
+-- p stays, and its lookup finds nothing, with this refusal
 pub record Stays (o : MoveOperations) (b : List ℕ) (p : TypingPosition) (k : ℕ) : Type 0 where
   pub pushed : (x : ℕ) → o .push b p x ≡ moveAnswer k p
   pub taken-back : o .back b p ≡ moveAnswer k p
@@ -108,8 +108,8 @@ pub record PositionDemand (o : MoveOperations) : Type 0 where
   pub refused : (b : List ℕ) (p : TypingPosition) → headerRefusal b ≢ 0 → Stays o b p (headerRefusal b)
   pub outside : (b : List ℕ) (p : TypingPosition) → headerRefusal b ≡ 0 → slotCount b ≤ p .slot → Stays o b p 0
 
--- The functions for C: a position is a 64-bit number, and an answer is the number that C's probe gives. (What a set says of it follows
--- from what it says of the lookup.)
+-- The functions for C: a position is a 64-bit number, and an answer is the number that C's probe gives. (What a set says of it
+-- follows from what it says of the lookup.)
 pub record HostMoves : Type 0 where
   pub fresh : ℕ
   pub push : List ℕ → ℕ → ℕ → ℕ
@@ -122,7 +122,7 @@ definedHostMoves = record { fresh = hostFresh; push = hostPushOf; back = hostBac
 abbrev pub host : HostMoves → PositionProgram
 host o = record { Position = ℕ; Answer = ℕ; fresh = o .fresh; pushed = o .push; takenBack = o .back; answer = o .probe; lookup = probeNumber }
 
--- the number n stays, and its probe says nothing, with this refusal
+-- the number n stays, and its probe finds nothing, with this refusal
 pub record HostStays (o : HostMoves) (b : List ℕ) (n k : ℕ) : Type 0 where
   pub pushed : (x : ℕ) → o .push b n x ≡ n
   pub taken-back : o .back b n ≡ n

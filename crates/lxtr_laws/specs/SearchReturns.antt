@@ -8,7 +8,7 @@ use borrow.Author.Tests.{ne-eqb}
 use Rattle.lxtr_spec.specs.Labels.{labelsOf}
 use Rattle.lxtr_spec.specs.Refusals.{refuseIf, firstRefusal, unlessRefused, headerRefusal}
 use Rattle.lxtr_spec.specs.Walks.{walkWithin}
-use Rattle.lxtr_spec.specs.Searches.{queryRefusal, searchRefusal, caseAt, caseFor, lookupOf, prefixMatches, prefixesAnswer, prefixesOf, LongestAnswer, lastLength, longestLength, longestOf}
+use Rattle.lxtr_spec.specs.Searches.{queryRefusal, searchRefusal, caseAt, caseWithin, lookupOf, prefixMatches, prefixesAnswer, prefixesOf, LongestAnswer, lastLength, longestLength, longestOf}
 use Rattle.lxtr_spec.specs.Answers.{found}
 use Rattle.lxtr_spec.specs.declared.Found.{Found}
 use Rattle.lxtr_spec.specs.declared.Case.{Case}
@@ -47,7 +47,7 @@ module _ (b q : List ℕ) (r : ℕ) where
     module _ (h : r ≡ 0 → ⊥) where
       pub lookup-refused : _≡_ {A = Lookup} (record { refusal = r; case = Neither }) (lookupOf b q)
       unfolding lookupOf
-      lookup-refused = rw (← known, stands r (caseFor b (labelsOf q)) Neither h)
+      lookup-refused = rw (← known, stands r (caseWithin b (labelsOf q)) Neither h)
 
       pub prefixes-refused : (p : Prefixes) → p ≡ prefixesAnswer r [] → p ≡ prefixesOf b q
       unfolding prefixesOf
@@ -60,7 +60,7 @@ module _ (b q : List ℕ) (r : ℕ) where
     -- and without one
     module _ (z : r ≡ 0) where
       pub lookup-passed : (f : Found) (c : Case) → found f ≡ walkWithin b (labelsOf q) → c ≡ caseAt b (found f) → _≡_ {A = Lookup} (record { refusal = r; case = c }) (lookupOf b q)
-      unfolding lookupOf caseFor unlessRefused
+      unfolding lookupOf caseWithin unlessRefused
       lookup-passed f c walked e = rw (z, sym known ∙ z, ← walked, e)
 
       pub prefixes-passed : (p : Prefixes) → p ≡ prefixesAnswer 0 (prefixMatches b q) → p ≡ prefixesOf b q

@@ -137,8 +137,8 @@ module _ (b xs : List ℕ) where
   pub within-allowed : (f : Found) (n : ℕ) → found f ≡ walkWithin b xs → f ≡ Is n → length xs ≤ maxLabels
   within-allowed f n answer h = within-is n .0 (found-is f n (walkWithin b xs) answer h) .0
 
-  pub within-below : (f : Found) (n : ℕ) → found f ≡ walkWithin b xs → Passed b → f ≡ Is n → n < slotCount b
-  within-below f n answer ok h = walk-below b xs ok (last xs) n (within-is n .0 (found-is f n (walkWithin b xs) answer h) .1)
-
   pub within-slot : (f : Found) → found f ≡ walkWithin b xs → Passed b → IsSlot b (found f)
   within-slot f answer ok = record { below = λ n e. walk-below b xs ok (last xs) n (within-is n .0 (sym answer ∙ e) .1) }
+
+  pub within-below : (f : Found) (n : ℕ) → found f ≡ walkWithin b xs → Passed b → f ≡ Is n → n < slotCount b
+  within-below f n answer ok = slot-below b f n (within-slot f answer ok)

@@ -228,8 +228,8 @@ module _ (o : Operations) (meets : Demand2 o) where
   pub constant-longest-fails : Constant (λ q. length (o .longest p3 q .part)) → ⊥
   constant-longest-fails = constant-fails (λ (a : LongestAnswer). length (a .part)) (o .longest p3) (longestOf p3) (λ q. only-longest p3 q p3-is-image) q6e q61 refl refl longest-differs
 
-  -- What the case says of longer keys and of the value is true. So these fail: prefix where only the end of the query's own key follows;
-  -- no prefix where longer keys exist; another value, or none, than the set has; and the two last cases exchanged, on P3.
+  -- What the case says of longer keys and of the value is true. So these fail: prefix where only the end of the query's own key
+  -- follows; no prefix where longer keys exist; another value, or none, than the set has; the two last cases exchanged, on P3.
   case-true : (b : List ℕ) (d : PairSet) (q : List ℕ) → ImageOf b d → length q % 4 ≡ 0 → Says d (labelsOf q) (o .lookup b q .case)
   case-true b d q image whole = let (c, is) = demand2 b d q image whole .some-case in rw (meets b d q image whole .lookup c is) (case-says d (labelsOf q) c is)
 

@@ -35,16 +35,18 @@ readings =
     ∷ refused (imageBytes (set nodes3 7 1) offsets3 children3 (set labels3 1 0x6E)) 9
     ∷ refused (imageBytes (set nodes3 7 1) offsets3 (set children3 2 4) labels3) 10
     ∷ refused (imageBytes (0 ∷ 0 ∷ 0 ∷ 0 ∷ 2 ∷ 3 ∷ 3 ∷ 2 ∷ []) (0 ∷ 0 ∷ 0 ∷ 1 ∷ 2 ∷ []) (2 ∷ 3 ∷ []) (0x61 ∷ [])) 11
-    -- an end without HAS_LEAF, where its own place in the list makes the prefix; HAS_LEAF before an end that is not a leaf, alone in the
-    -- list and with another entry; HAS_LEAF with nothing behind it; a value whose list is empty; a leaf has no steps; offsets that
-    -- fall; a label that is not listed; one listed twice
+    -- an end without HAS_LEAF, whose own place in the list makes the prefix; HAS_LEAF before an end that is not a leaf, alone in
+    -- the list and with another entry; HAS_LEAF with nothing behind it; a value whose list is empty; a leaf has no steps, but its
+    -- list counts; offsets that fall, and offsets past E; a label that is not listed; one listed twice
     ∷ lookup (imageBytes (0 ∷ 0 ∷ 2 ∷ 0 ∷ 0x80000005 ∷ 1 ∷ []) (0 ∷ 0 ∷ 1 ∷ 1 ∷ []) (2 ∷ []) []) [] PrefixOnly 0 0x2_0000_0000
     ∷ lookup (imageBytes (0 ∷ 0 ∷ 2 ∷ 0x80000000 ∷ 5 ∷ 1 ∷ []) (0 ∷ 0 ∷ 1 ∷ 1 ∷ []) (2 ∷ []) []) [] Neither 0 0
     ∷ lookup (imageBytes (0 ∷ 0 ∷ 2 ∷ 0x80000000 ∷ 5 ∷ 1 ∷ 0 ∷ 0 ∷ []) (0 ∷ 0 ∷ 2 ∷ 2 ∷ 2 ∷ []) (2 ∷ 3 ∷ []) []) [] PrefixOnly 0 0x2_0000_0000
     ∷ lookup (imageBytes (0 ∷ 0 ∷ 2 ∷ 0x80000000 ∷ 0 ∷ 0 ∷ []) (0 ∷ 0 ∷ 0 ∷ 1 ∷ []) (2 ∷ []) []) [] Neither 0 0
     ∷ lookup (imageBytes (0 ∷ 0 ∷ 2 ∷ 0x80000000 ∷ 0x80000005 ∷ 1 ∷ []) (0 ∷ 0 ∷ 0 ∷ 1 ∷ []) (2 ∷ []) []) [] (ExactOnly 5) 0x1_0000_0005 0x1_0000_0005
     ∷ lookup (imageBytes (0 ∷ 0 ∷ 0x80000002 ∷ 0 ∷ 0 ∷ 0 ∷ 0 ∷ 1 ∷ []) (0 ∷ 0 ∷ 0 ∷ 0 ∷ 1 ∷ []) (2 ∷ []) (0x61 ∷ [])) (0x61 ∷ []) Neither 0 0
+    ∷ lookup (imageBytes (0 ∷ 0 ∷ 2 ∷ 0 ∷ 0 ∷ 0 ∷ 0x80000005 ∷ 1 ∷ []) (0 ∷ 0 ∷ 0 ∷ 0 ∷ 1 ∷ []) (2 ∷ []) (0x61 ∷ [])) (0x61 ∷ []) PrefixOnly 0 0x2_0000_0000
     ∷ lookup (imageBytes (0 ∷ 0 ∷ 0 ∷ 0 ∷ []) (0 ∷ 5 ∷ 0 ∷ []) [] []) [] Neither 0 0
+    ∷ lookup (imageBytes (0 ∷ 0 ∷ 0 ∷ 0 ∷ 0 ∷ 0 ∷ []) (0 ∷ 7 ∷ 9 ∷ 1 ∷ []) (2 ∷ []) []) [] PrefixOnly 0 0x2_0000_0000
     ∷ lookup (imageBytes (0 ∷ 0 ∷ 2 ∷ 0x80000000 ∷ 0x80000000 ∷ 1 ∷ []) (0 ∷ 0 ∷ 0 ∷ 1 ∷ []) (2 ∷ []) []) (0x78 ∷ []) Neither 0 0
     ∷ lookup p9-labels (0x6E ∷ []) (ExactAndPrefix 0) 0x1_0000_0000 0x3_0000_0000
     ∷ []
@@ -58,5 +60,5 @@ readings-hold =
     and (refl, refl, refl) and (refl, refl, refl) and (refl, refl) and refl and refl
     and (refl, refl, refl) and (refl, refl, refl) and (refl, refl, refl) and (refl, refl, refl)
     and (refl, refl, refl) and (refl, refl, refl) and (refl, refl, refl) and (refl, refl, refl) and (refl, refl, refl) and (refl, refl, refl)
-    and (refl, refl, refl) and (refl, refl, refl) and (refl, refl, refl)
+    and (refl, refl, refl) and (refl, refl, refl) and (refl, refl, refl) and (refl, refl, refl) and (refl, refl, refl)
     and tt

@@ -26,7 +26,7 @@ module _ (b : List ℕ) (s : Found) where
   unfolding caseAt
   case-nowhere nowhere = rw nowhere
 
-  -- its value f is g, and the test l whether longer keys exist gave t
+  -- f is the value there, matched as g, and l whether longer keys exist, tested as t
   pub case-told : (n : ℕ) (f g : Found) (l t : Bool) (c : Case) → s ≡ Is n → found f ≡ valueAt b n → l ≡ longerAt b n → f ≡ g → l ≡ t → c ≡ caseOf (found g) t → c ≡ caseAt b (found s)
   unfolding caseAt
   case-told n f g l t c reached value longer told test h = rw reached (h ∙ ap₂ caseOf (sym (ap found told) ∙ value) (sym test ∙ longer))

@@ -36,8 +36,8 @@ valueNumbered k more (some v) = hostNumber k more true v
 unfoldable pub checkNumber : List ℕ → ℕ
 checkNumber b = hostNumber (checkOf b .refusal) false false (checkOf b .pairs)
 
--- Document 02, request 6: C keeps its exact and probe with the numbers they answered. (Both are numbers of a lookup: exact's has its
--- value, probe's also whether longer keys exist.)
+-- Document 02, request 6: C keeps its exact and probe with the numbers they answered. (Both are numbers of a lookup: exact's has
+-- its value, probe's also whether longer keys exist.)
 unfoldable pub exactNumbered : Lookup → ℕ
 exactNumbered r = valueNumbered (r .refusal) false (caseValue (r .case))
 

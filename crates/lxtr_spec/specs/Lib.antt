@@ -1,5 +1,5 @@
--- Document 01 as definitions, without proofs, with requests 2, 3, 5 and 6 of document 02. Each file names its section. All of them compute,
--- except Sets and Meaning, which state what has to hold.
+-- Document 01 as definitions, without proofs, with requests 2, 3, 5 and 6 of document 02. Each file names its section. All of them
+-- compute, except Sets and Meaning, which state what has to hold.
 pub mod Ranges
 pub mod Numbers
 pub mod Labels

@@ -45,8 +45,8 @@ pub record Longer (d : PairSet) (xs : List ℕ) : Type 0 where
   pub value : ℕ
   pub is : Has d (xs ++ next ∷ rest) value
 
--- Lookup, by its four cases. Nothing: no key begins with the labels. Prefix: they are a proper front part of a key, and no key. Exact:
--- they are a key with this value, and no proper front part of one. Exact and prefix: they are both.
+-- Lookup, by its four cases. Nothing: no key begins with the labels. Prefix: they are a proper front part of a key, and no key.
+-- Exact: they are a key with this value, and no proper front part of one. Exact and prefix: they are both.
 abbrev pub CaseIn : PairSet → List ℕ → Case → Type 0
 CaseIn d xs Neither = (r : List ℕ) (v : ℕ) → Has d (xs ++ r) v → ⊥
 CaseIn d xs PrefixOnly = Longer d xs × (d xs ≡ none)

@@ -1,4 +1,4 @@
--- Document 02, request 3: a typing position, for all images and positions. Where it says probe, request 6 has put the lookup.
+-- Document 02, request 3: a typing position, for all images and positions. Where it says probe, request 6 put the lookup.
 use Prim.Native.Nat.{ℕ, _+_, _-_}
 use mathlib.Core.List.{List}
 use mathlib.Core.Option.{Option, some, none}

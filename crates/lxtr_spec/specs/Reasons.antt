@@ -1,4 +1,4 @@
--- Document 02, request 5: why a word is missing, for all images and queries.
+-- Document 02, request 5: why a word is missing, for all images and queries. Where it says exact match, request 6 put the lookup.
 use Prim.Native.Nat.{ℕ, _+_}
 use mathlib.Core.List.{List, [], _∷_}
 use mathlib.Core.Option.{Option, some, none}

@@ -23,8 +23,8 @@ searchRefusal b q = firstRefusal (headerRefusal b) (queryRefusal q)
 
 -- Refusals answer zero, no value, an empty part, and write nothing in lent room. Each answer below says so by `unlessRefused`.
 
--- Document 02, request 6: merge them (exact and probe) into one operation with four cases: nothing, prefix, exact, exact and prefix,
--- the last two with the value.
+-- Document 02, request 6: merge them (exact and probe) into one operation with four cases: nothing, prefix, exact, exact and
+-- prefix, the last two with the value.
 -- (of each case, its value or none; ..
 unfoldable pub caseValue : Case → Option ℕ
 caseValue Neither = none
@@ -46,22 +46,22 @@ caseOf none true = PrefixOnly
 caseOf (some v) false = ExactOnly v
 caseOf (some v) true = ExactAndPrefix v
 
--- Document 01 of both: value or none, and whether longer keys exist. If the walk fails or the query passes 64 labels: none, no.
+-- Document 01, Probe: value or none, and whether longer keys exist. If the walk fails or the query passes 64 labels: none, no.
 unfoldable pub caseAt : List ℕ → Option ℕ → Case
 caseAt b none = Neither
 caseAt b (some n) = caseOf (valueAt b n) (longerAt b n)
 
--- the case of the labels xs, and its value
-unfoldable pub caseFor : List ℕ → List ℕ → Case
-caseFor b xs = caseAt b (walkWithin b xs)
+-- the case of the labels xs; beyond 64 labels, nothing; and its value
+unfoldable pub caseWithin : List ℕ → List ℕ → Case
+caseWithin b xs = caseAt b (walkWithin b xs)
 
-unfoldable pub valueFor : List ℕ → List ℕ → Option ℕ
-valueFor b xs = caseValue (caseFor b xs)
+unfoldable pub valueWithin : List ℕ → List ℕ → Option ℕ
+valueWithin b xs = caseValue (caseWithin b xs)
 
 -- Refusals: 1 to 8 and 13 as before, beside the cases.
 unfoldable pub lookupOf : List ℕ → List ℕ → Lookup
 lookupOf b q =
-    let case = caseFor b (labelsOf q) in
+    let case = caseWithin b (labelsOf q) in
     record { refusal = searchRefusal b q; case = unlessRefused (searchRefusal b q) case Neither }
 
 -- Prefixes: length and value, shortest first, of each prefix of xs to which f gives a value. matchAt gives the match of length k, if any.

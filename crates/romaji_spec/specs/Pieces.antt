@@ -15,8 +15,8 @@ use Rattle.romaji_spec.specs.KanaTables.{kanaOf}
 unfoldable pub maxKept : ℕ
 maxKept = maxLabels - 1
 
--- a rest that could still grow, being a proper front part of a key: its lookup says that longer keys exist. (The bound takes nothing
--- away: a longer rest is no proper front part of a key.)
+-- a rest that could still grow, being a proper front part of a key: its lookup says that longer keys exist. (The bound takes
+-- nothing away: a longer rest is no proper front part of a key.)
 unfoldable pub couldGrow : List ℕ → List ℕ → Bool
 couldGrow b r = leb (length r) maxKept && caseLonger (lookupOf b (beWords r) .case)
 

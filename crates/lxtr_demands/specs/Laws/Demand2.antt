@@ -7,7 +7,7 @@ use mathlib.Core.List.{List}
 use lib.ListN.{length}
 use Rattle.lxtr_spec.specs.Labels.{labelsOf}
 use Rattle.lxtr_spec.specs.Refusals.{unlessRefused}
-use Rattle.lxtr_spec.specs.Searches.{caseFor, valueFor, lookupOf}
+use Rattle.lxtr_spec.specs.Searches.{caseWithin, valueWithin, lookupOf}
 use Rattle.lxtr_spec.specs.Completions.{pairsBelow, fitting}
 use Rattle.lxtr_spec.specs.Sets.{PairSet}
 use Rattle.lxtr_demands.specs.Operations.{defined}
@@ -22,7 +22,7 @@ use Rattle.lxtr_demands.specs.Laws.Rooms.{some-front, one-front}
 use Rattle.lxtr_demands.specs.Laws.Completions.{pairs-listed, search-passes, completes}
 
 -- the set of an image is what lookup finds
-pub lookup-set : {b : List ℕ} {d : PairSet} → KnownImage b d → valueFor b ≡ d
+pub lookup-set : {b : List ℕ} {d : PairSet} → KnownImage b d → valueWithin b ≡ d
 lookup-set {b} known = fun-ext (λ xs. value-reached b xs ∙ value-led known xs (leads known xs))
 
 pub demand2 : Demand2 defined
@@ -32,9 +32,9 @@ demand2 b d q image whole =
     let known = known-image image in
     record {
       searched = subst (λ e. Searched defined b e q (labelsOf q)) (lookup-set known) (searches-agree b q passes);
-      lookup = λ c is. rw (passes, one-case d (labelsOf q) (caseFor b (labelsOf q)) c (true-case known (labelsOf q)) is);
+      lookup = λ c is. rw (passes, one-case d (labelsOf q) (caseWithin b (labelsOf q)) c (true-case known (labelsOf q)) is);
       one-case = one-case d (labelsOf q);
-      some-case = (caseFor b (labelsOf q), true-case known (labelsOf q));
+      some-case = (caseWithin b (labelsOf q), true-case known (labelsOf q));
       one-listing = one-listing b d (labelsOf q);
       some-listing = (pairsBelow b (labelsOf q), pairs-listed known (labelsOf q));
       completion = λ ps fit room l h f. completes image q whole room ps fit h l f;

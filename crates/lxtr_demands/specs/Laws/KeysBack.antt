@@ -11,7 +11,7 @@ use lib.ListN.{getD, length}
 use Rattle.lxtr_spec.specs.Numbers.{beWords}
 use Rattle.lxtr_spec.specs.Labels.{labelsOf, comesBefore, Pair}
 use Rattle.lxtr_spec.specs.Refusals.{unlessRefused, endCount, checkOf}
-use Rattle.lxtr_spec.specs.Searches.{searchRefusal, caseValue, caseFor, valueFor, lookupOf}
+use Rattle.lxtr_spec.specs.Searches.{searchRefusal, caseValue, caseWithin, valueWithin, lookupOf}
 use Rattle.lxtr_spec.specs.declared.Case.the-variants.{Neither}
 use Rattle.lxtr_spec.specs.KeyLists.{keysAt, keyCount, pairsOf}
 use Rattle.lxtr_spec.specs.Sets.{PairSet, Has, ImageOf}
@@ -74,10 +74,10 @@ module _ (keys image : List ℕ) (right : KeysRight (pairsOf keys)) (image-of : 
       rw (labels-back k small, has k v m) at (demand2 image d (beWords k) image-of whole .searched .lookup-value)
 
   lookup-only : (q : List ℕ) (v : ℕ) → caseValue (lookupOf image q .case) ≡ some v → List·Memᴰ (labelsOf q, v) ps
-  unfolding lookupOf caseValue valueFor unlessRefused
+  unfolding lookupOf caseValue valueWithin unlessRefused
   lookup-only q v e = go (searchRefusal image q) e
     where
-      go : (n : ℕ) → caseValue (unlessRefused n (caseFor image (labelsOf q)) Neither) ≡ some v → List·Memᴰ (labelsOf q, v) ps
+      go : (n : ℕ) → caseValue (unlessRefused n (caseWithin image (labelsOf q)) Neither) ≡ some v → List·Memᴰ (labelsOf q, v) ps
       go zero e = member (labelsOf q) v (ap (λ (f : PairSet). f (labelsOf q)) (sym (lookup-set (known-image image-of))) ∙ e)
       go (suc n) e = absurd (none-not-some e)
 

@@ -1,5 +1,5 @@
--- The case of a lookup is the one that is true of the set. Its value is the set's, and the width of a slot's children list says whether
--- longer keys exist: its entries are the slots of longer prefixes, and the prefix's own end, which has code 0 and comes first.
+-- The case of a lookup is the one that is true of the set: its value is the set's, and the width of a slot's list says whether longer
+-- keys exist. Its entries are the slots of longer prefixes and, if the prefix is a key, its own end, which comes first.
 use Prim.Native.Nat.{ℕ, _+_, _<_}
 use native.Mathlib.Omega.{arith}
 use mathlib.Core.Path.{_≡_, refl, sym, ap, _∙_}
@@ -9,7 +9,7 @@ use mathlib.Core.Option.{Option, some, none}
 use mathlib.Core.Bool.{Bool, true, false, cond, true≢false, false≢true}
 use Rattle.lxtr_spec.specs.Image.{hasLeaf, offset, child, listWidth}
 use Rattle.lxtr_spec.specs.Walks.{walkWithin, valueAt, longerAt}
-use Rattle.lxtr_spec.specs.Searches.{caseValue, caseLonger, caseAt, caseFor}
+use Rattle.lxtr_spec.specs.Searches.{caseValue, caseLonger, caseAt, caseWithin}
 use Rattle.lxtr_spec.specs.Sets.{PairSet, Has, Prefix, InList}
 use Rattle.lxtr_spec.specs.Meaning.{Longer, CaseIn}
 use Rattle.lxtr_spec.specs.declared.Case.{Case}
@@ -111,8 +111,8 @@ module _ {b : List ℕ} {d : PairSet} (known : KnownImage b d) (xs : List ℕ) w
   longer-led (nowhere n) = (λ e. absurd (false≢true e), λ l. absurd (n (prefix-part d xs (l .next ∷ []) (longer-prefix d xs l))))
 
   -- the case that lookup finds is true
-  pub true-case : CaseIn d xs (caseFor b xs)
-  unfolding caseFor
+  pub true-case : CaseIn d xs (caseWithin b xs)
+  unfolding caseWithin
   true-case =
       let to = leads known xs in
       says-case d xs (caseAt b (walkWithin b xs)) (record { value = value-there b (walkWithin b xs) ∙ value-led known xs to; longer = longer-led to })

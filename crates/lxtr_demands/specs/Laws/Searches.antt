@@ -11,7 +11,7 @@ use Rattle.lxtr_spec.specs.Ranges.{concatFrom}
 use Rattle.lxtr_spec.specs.Labels.{maxLabels, labelsOf}
 use Rattle.lxtr_spec.specs.Refusals.{unlessRefused, headerRefusal}
 use Rattle.lxtr_spec.specs.Walks.{walkWithin, valueReached, valueOf}
-use Rattle.lxtr_spec.specs.Searches.{queryRefusal, searchRefusal, caseFor, valueFor, lookupOf, lengthMatch, matchAt, matches, prefixMatches, prefixesOf, lastLength, longestLength, longestOf}
+use Rattle.lxtr_spec.specs.Searches.{queryRefusal, searchRefusal, caseWithin, valueWithin, lookupOf, lengthMatch, matchAt, matches, prefixMatches, prefixesOf, lastLength, longestLength, longestOf}
 use Rattle.lxtr_spec.specs.Sets.{Has}
 use Rattle.lxtr_spec.specs.Meaning.{PrefixesIn, LongestIn}
 use Rattle.lxtr_laws.specs.RefusalChains.{none-first}
@@ -25,8 +25,8 @@ use Rattle.lxtr_demands.specs.Operations.{defined}
 use Rattle.lxtr_demands.specs.Laws.Prefixes.{prefixes-in, one-prefixes, longest-in, one-longest}
 
 module _ (b : List ℕ) where
-  pub value-reached : (k : List ℕ) → valueFor b k ≡ valueReached b (walkWithin b k)
-  unfolding valueFor caseFor
+  pub value-reached : (k : List ℕ) → valueWithin b k ≡ valueReached b (walkWithin b k)
+  unfolding valueWithin caseWithin
   value-reached k = value-there b (walkWithin b k)
 
   -- lookup finds no value beyond the limit
@@ -35,27 +35,27 @@ module _ (b : List ℕ) where
   reached-limit k v none e h = absurd (none-not-some h)
   reached-limit k v (some t) e h = within-is b k t .0 e .0
 
-  pub value-limit : (k : List ℕ) (v : ℕ) → Has (valueFor b) k v → length k ≤ maxLabels
+  pub value-limit : (k : List ℕ) (v : ℕ) → Has (valueWithin b) k v → length k ≤ maxLabels
   value-limit k v h = reached-limit k v (walkWithin b k) refl (sym (value-reached k) ∙ h)
 
   -- and within the limit it finds what the walk gives
-  pub value-within : (k : List ℕ) → length k ≤ maxLabels → valueFor b k ≡ valueOf b k
+  pub value-within : (k : List ℕ) → length k ≤ maxLabels → valueWithin b k ≡ valueOf b k
   unfolding valueOf
   value-within k h = value-reached k ∙ ap (valueReached b) (within b k h)
 
-  same-matches : (xs : List ℕ) → matches (valueFor b) (take maxLabels xs) ≡ matches (valueOf b) (take maxLabels xs)
+  same-matches : (xs : List ℕ) → matches (valueWithin b) (take maxLabels xs) ≡ matches (valueOf b) (take maxLabels xs)
   unfolding matches matchAt
   same-matches xs =
       let ys = take maxLabels xs in
       ap (concatFrom (length ys + 1) 0) (fun-ext (λ k. ap (lengthMatch k) (value-within (take k ys) (omega (arith, length-take k ys, length-take maxLabels xs)))))
 
   module _ (q : List ℕ) where
-    matches-in : PrefixesIn (valueFor b) (labelsOf q) (prefixMatches b q)
+    matches-in : PrefixesIn (valueWithin b) (labelsOf q) (prefixMatches b q)
     unfolding prefixMatches
-    matches-in = rw (← (same-matches (labelsOf q))) (prefixes-in (valueFor b) value-limit (labelsOf q))
+    matches-in = rw (← (same-matches (labelsOf q))) (prefixes-in (valueWithin b) value-limit (labelsOf q))
 
-    longest-found : LongestIn (valueFor b) (labelsOf q) (lastLength (prefixMatches b q))
-    longest-found = longest-in (valueFor b) (labelsOf q) (prefixMatches b q) matches-in
+    longest-found : LongestIn (valueWithin b) (labelsOf q) (lastLength (prefixMatches b q))
+    longest-found = longest-in (valueWithin b) (labelsOf q) (prefixMatches b q) matches-in
 
     -- a front part of a query that is not refused is not refused either
     front-passes : (n : ℕ) → 4 * n ≤ length q → searchRefusal b q ≡ 0 → searchRefusal b (take (4 * n) q) ≡ 0
@@ -64,14 +64,14 @@ module _ (b : List ℕ) where
         let whole : length (take (4 * n) q) % 4 ≡ 0 = omega (arith, length-take-le (4 * n) q h) in
         none-first (headerRefusal b) (queryRefusal (take (4 * n) q)) .1 (none-first (headerRefusal b) (queryRefusal q) .0 e .0, query-passes (take (4 * n) q) .1 whole)
 
-    gives-value : searchRefusal b q ≡ 0 → GivesValue defined b q (valueFor b (labelsOf q))
-    unfolding lookupOf valueFor unlessRefused
+    gives-value : searchRefusal b q ≡ 0 → GivesValue defined b q (valueWithin b (labelsOf q))
+    unfolding lookupOf valueWithin unlessRefused
     gives-value passes = record { refusal = passes; value = rw passes }
 
 pub searches-agree : SearchesAgree
 unfolding prefixesOf longestLength longestOf unlessRefused
 searches-agree b q passes =
-    let d = valueFor b in
+    let d = valueWithin b in
     let xs = labelsOf q in
     record {
       lookup-value = gives-value b q passes;

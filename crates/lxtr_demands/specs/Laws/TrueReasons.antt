@@ -14,7 +14,7 @@ use Rattle.lxtr_spec.specs.Labels.{maxLabels, labelsOf}
 use Rattle.lxtr_spec.specs.Image.{codeOf}
 use Rattle.lxtr_spec.specs.Refusals.{unlessRefused}
 use Rattle.lxtr_spec.specs.Walks.{stepBy, walk, valueAt, valueReached, valueOf}
-use Rattle.lxtr_spec.specs.Searches.{searchRefusal, caseValue, caseFor, valueFor, lookupOf}
+use Rattle.lxtr_spec.specs.Searches.{searchRefusal, caseValue, caseWithin, valueWithin, lookupOf}
 use Rattle.lxtr_spec.specs.Reasons.{endedWith, stoppedAt, reasonOf, whyOf, reasonNumber}
 use Rattle.lxtr_spec.specs.Sets.{PairSet, Has, Prefix, ImageOf}
 use Rattle.lxtr_spec.specs.Meaning.{Longer}
@@ -69,12 +69,12 @@ module _ (b xs : List ℕ) where
       go n e (some t) f = absurd (s .stops (i + 1) (omega arith) (t, walk-on b xs i n (s .place) e t f))
 
   -- the value that lookup finds is that of the slot reached
-  value-at : length xs ≤ maxLabels → (n : ℕ) → walk b 1 xs ≡ some n → valueFor b xs ≡ valueAt b n
+  value-at : length xs ≤ maxLabels → (n : ℕ) → walk b 1 xs ≡ some n → valueWithin b xs ≡ valueAt b n
   unfolding valueOf valueReached
   value-at few n e = value-within b xs few ∙ rw e
 
-  value-reached : (v : ℕ) → valueFor b xs ≡ some v → (length xs ≤ maxLabels) × Walks b xs
-  value-reached v e =
+  value-walks : (v : ℕ) → valueWithin b xs ≡ some v → (length xs ≤ maxLabels) × Walks b xs
+  value-walks v e =
       let few = value-limit b xs v e in
       let r = value-of-is b xs v .0 (sym (value-within b xs few) ∙ e) in
       (few, (r .0, r .1))
@@ -98,7 +98,7 @@ module _ (b xs : List ℕ) where
   unfolding endedWith
   ended-true few n e = go (valueAt b n) (value-at few n e)
     where
-      go : (o : Option ℕ) → valueFor b xs ≡ o → TrueReason b xs (endedWith o)
+      go : (o : Option ℕ) → valueWithin b xs ≡ o → TrueReason b xs (endedWith o)
       go none f = (few, (n, e), f)
       go (some v) f = (v, f)
 
@@ -121,13 +121,13 @@ module _ (b xs : List ℕ) where
       let (t, same) = stop-at i s in
       reason-within b xs (s .within) ∙ rw same at (reason-stops b xs (t .place) (t .slot) (t .below) (t .reached) (t .stays))
 
-  reason-ended : (o : Option ℕ) → length xs ≤ maxLabels → Walks b xs → valueFor b xs ≡ o → reasonOf b xs ≡ endedWith o
+  reason-ended : (o : Option ℕ) → length xs ≤ maxLabels → Walks b xs → valueWithin b xs ≡ o → reasonOf b xs ≡ endedWith o
   reason-ended o few (n, e) f = reason-within b xs few ∙ reason-ends b xs n e ∙ ap endedWith (sym (value-at few n e) ∙ f)
 
   only-reason : (r : Reason) → TrueReason b xs r → reasonOf b xs ≡ r
   unfolding endedWith
   only-reason NoReason t = absurd t
-  only-reason IsFound (v, e) = let r = value-reached v e in reason-ended (some v) (r .0) (r .1) e
+  only-reason IsFound (v, e) = let r = value-walks v e in reason-ended (some v) (r .0) (r .1) e
   only-reason (NotListed i) (s, out) = reason-stopped i s ∙ ⊎-elim (λ (e, _). e) (λ (_, is). absurd (out is)) (told i)
   only-reason (NoStep i) (s, is) = reason-stopped i s ∙ ⊎-elim (λ (_, out). absurd (out is)) (λ (e, _). e) (told i)
   only-reason NoKeyEnds (few, w, e) = reason-ended none few w e
@@ -192,7 +192,7 @@ module _ {b : List ℕ} {d : PairSet} (image : ImageOf b d) (xs : List ℕ) wher
 
 -- ---- the definitions meet the demand
 
-found-exactly : (b xs : List ℕ) → (reasonOf b xs ≡ IsFound) ↔ ((v : ℕ) × (valueFor b xs ≡ some v))
+found-exactly : (b xs : List ℕ) → (reasonOf b xs ≡ IsFound) ↔ ((v : ℕ) × (valueWithin b xs ≡ some v))
 found-exactly b xs = (λ e. rw e at (reason-true b xs), only-reason b xs IsFound)
 
 no-reason-found : NoReason ≡ IsFound → ⊥
@@ -206,13 +206,13 @@ unless-found zero r c h = h
 unless-found (suc k) r c h = (λ e. absurd (no-reason-found e), λ (v, e). absurd (none-not-some e))
 
 pub why-demand : WhyDemand whyOf
-unfolding whyOf lookupOf valueFor unlessRefused
+unfolding whyOf lookupOf valueWithin unlessRefused
 why-demand = record {
   refused = λ b q h. rw (stands (searchRefusal b q) (reasonOf b (labelsOf q)) NoReason h);
   answer = λ b q r passes t. rw (passes, only-reason b (labelsOf q) r t);
   some-reason = λ b xs. (reasonOf b xs, reason-true b xs);
   one-reason = λ b xs r s t u. sym (only-reason b xs r t) ∙ only-reason b xs s u;
-  found-by-lookup = λ b q. unless-found (searchRefusal b q) (reasonOf b (labelsOf q)) (caseFor b (labelsOf q)) (found-exactly b (labelsOf q));
+  found-by-lookup = λ b q. unless-found (searchRefusal b q) (reasonOf b (labelsOf q)) (caseWithin b (labelsOf q)) (found-exactly b (labelsOf q));
   in-set = λ b d xs r image. reason-in image xs r;
   in-no-key = λ b d xs i image t p r v h. t .1 (image .keys .key-label p (getD xs i 0) r v h);
 }

@@ -18,7 +18,7 @@ use Rattle.lxtr_spec.specs.Labels.{maxLabels, labelsOf}
 use Rattle.lxtr_spec.specs.Image.{slotCount, parent}
 use Rattle.lxtr_spec.specs.Refusals.{unlessRefused, headerRefusal}
 use Rattle.lxtr_spec.specs.Walks.{walk, walkWithin}
-use Rattle.lxtr_spec.specs.Searches.{caseAt, caseFor, lookupOf}
+use Rattle.lxtr_spec.specs.Searches.{caseAt, caseWithin, lookupOf}
 use Rattle.lxtr_spec.specs.declared.Case.{Case}
 use Rattle.lxtr_spec.specs.declared.Case.the-variants.{Neither}
 use Rattle.lxtr_spec.specs.declared.Lookup.{Lookup}
@@ -187,7 +187,7 @@ module _ (b : List ℕ) (passes : headerRefusal b ≡ 0) where
   ))
 
   answers : (xs : List ℕ) (p : TypingPosition) → At b xs p → (q : List ℕ) → length q % 4 ≡ 0 → labelsOf q ≡ xs → positionLookupOf b p ≡ lookupOf b q
-  unfolding positionLookupOf lookupOf caseFor unlessRefused
+  unfolding positionLookupOf lookupOf caseWithin unlessRefused
   answers xs p a q whole labels = rw (passes, ← (search-allowed b q 0 (sym passes) refl whole), labels, reached-walked xs p a)
 
 -- a refused image: the position stays

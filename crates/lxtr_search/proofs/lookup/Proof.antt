@@ -1,4 +1,4 @@
--- A refusal gives the case that says nothing; otherwise it is the case at the slot where the walk ends.
+-- A refusal gives the case Neither; otherwise it is the case at the slot where the walk ends.
 use borrow.Author.Needs.{needs}
 use Rattle.lxtr_laws.specs.Walking.{within-slot}
 use Rattle.lxtr_laws.specs.SearchReturns.{search-passed, lookup-refused, lookup-passed}

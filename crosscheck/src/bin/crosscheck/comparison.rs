@@ -288,24 +288,26 @@ impl Comparison {
 
     /// What exact, probe and why have to answer by the set, over the last image with a set.
     fn by_set(&mut self, call: &Call) -> Option<u64> {
-        let [image, query, _] = call.inputs();
+        let (Call::Exact { image, query }
+        | Call::Probe { image, query }
+        | Call::Why { image, query }) = *call
+        else {
+            return None;
+        };
         let whole = query.len().is_multiple_of(4);
         let last = self.last_set.as_ref().filter(|last| whole && last.image == image)?;
-        let case = || oracle::lookup(&last.set, &labels_in(query));
-        match call {
-            Call::Exact { .. } => Some(exact_number(case())),
-            Call::Probe { .. } => {
-                let answer = probe_number(case());
-                count_case(&mut self.oracle.cases, answer);
-                Some(answer)
-            }
-            Call::Why { .. } => {
-                let why = oracle::why(&last.set, &last.listed, &labels_in(query));
-                self.oracle.reasons[why.reason as usize] += 1;
-                Some(why_number(why))
-            }
-            _ => None,
+        let labels = labels_in(query);
+        if let Call::Why { .. } = call {
+            let why = oracle::why(&last.set, &last.listed, &labels);
+            self.oracle.reasons[why.reason as usize] += 1;
+            return Some(why_number(why));
         }
+        let case = oracle::lookup(&last.set, &labels);
+        if let Call::Exact { .. } = call {
+            return Some(exact_number(case));
+        }
+        count_case(&mut self.oracle.cases, probe_number(case));
+        Some(probe_number(case))
     }
 
     /// Prints the tables. Returns how many comparisons and variants came out right and wrong.

@@ -1,4 +1,4 @@
--- A refusal gives the case that says nothing; otherwise it is the case at the slot that all labels reach.
+-- A refusal gives the case Neither; otherwise it is the case at the slot that all labels reach.
 use borrow.Author.Needs.{needs}
 use Rattle.lxtr_position.specs.Moves.{header-allows, header-long, reached-slot, position-refused, position-passed}
 use Rattle.lxtr_position.proofs.Position.lookup.Statement.{statement}
