@@ -9,8 +9,8 @@ invariant-loop bytes₀ at number width next₀ k₀ bytes next k = Unit {0}
 abbrev decreases-loop : tie.decreases-loop
 decreases-loop bytes₀ at number width next₀ k₀ bytes next k = k
 
-pub push-number-spec : {M : Type 1} → statement M
-push-number-spec =
+pub push_number_spec : {M : Type 1} → statement M
+push_number_spec =
     tie.close
     (tie.spec
     invariant-loop

@@ -9,8 +9,8 @@ invariant-loop bytes₀ at series next₀ number₀ left₀ bytes next number le
 abbrev decreases-loop : tie.decreases-loop
 decreases-loop bytes₀ at series next₀ number₀ left₀ bytes next number left = left
 
-pub push-series-spec : {M : Type 1} → statement M
-push-series-spec =
+pub push_series_spec : {M : Type 1} → statement M
+push_series_spec =
     tie.close
     (tie.spec
     invariant-loop

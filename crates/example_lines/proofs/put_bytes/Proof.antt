@@ -9,8 +9,8 @@ invariant-loop to₀ at from next₀ i₀ to next i = Unit {0}
 abbrev decreases-loop : tie.decreases-loop
 decreases-loop to₀ at from next₀ i₀ to next i = length from - i
 
-pub put-bytes-spec : {M : Type 1} → statement M
-put-bytes-spec =
+pub put_bytes_spec : {M : Type 1} → statement M
+put_bytes_spec =
     tie.close
     (tie.spec
     invariant-loop

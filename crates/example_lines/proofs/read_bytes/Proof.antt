@@ -9,8 +9,8 @@ invariant-loop line at bytes₀ i₀ size₀ left₀ bytes i size left = Unit {0
 abbrev decreases-loop : tie.decreases-loop
 decreases-loop line at bytes₀ i₀ size₀ left₀ bytes i size left = left
 
-pub read-bytes-spec : {M : Type 1} → statement M
-read-bytes-spec =
+pub read_bytes_spec : {M : Type 1} → statement M
+read_bytes_spec =
     tie.close
     (tie.spec
     invariant-loop

@@ -9,8 +9,8 @@ invariant-loop line at base value₀ digits₀ i₀ value digits i = digits ≤ 
 abbrev decreases-loop : tie.decreases-loop
 decreases-loop line at base value₀ digits₀ i₀ value digits i = length line - i
 
-pub read-number-spec : {M : Type 1} → statement M
-read-number-spec =
+pub read_number_spec : {M : Type 1} → statement M
+read_number_spec =
     tie.close
     (tie.spec
     invariant-loop

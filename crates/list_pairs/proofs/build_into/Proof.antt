@@ -6,8 +6,8 @@ use Rattle.lxtr_build_laws.specs.BuiltAnswers.{built_within}
 use Rattle.list_pairs.proofs.build_into.Statement.{statement}
 use Rattle.list_pairs.proofs.build_into.Tie as tie
 
-pub build-into-spec : {M : Type 1} → statement M
-build-into-spec =
+pub build_into_spec : {M : Type 1} → statement M
+build_into_spec =
     tie.close
     (tie.spec
     (λ c κs. search rules)

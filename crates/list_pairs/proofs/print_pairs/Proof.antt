@@ -12,8 +12,8 @@ invariant-loop listing count at₀ i₀ at i = i ≤ count
 abbrev decreases-loop : tie.decreases-loop
 decreases-loop listing count at₀ i₀ at i = count - i
 
-pub print-pairs-spec : {M : Type 1} → statement M
-print-pairs-spec =
+pub print_pairs_spec : {M : Type 1} → statement M
+print_pairs_spec =
     tie.close
     (tie.spec
     invariant-loop

@@ -6,8 +6,8 @@ use lib.Seq.{length-take-le}
 use Rattle.lxtr.proofs.run_on_file.Statement.{statement}
 use Rattle.lxtr.proofs.run_on_file.Tie as tie
 
-pub run-on-file-spec : {M : Type 1} → statement M
-run-on-file-spec =
+pub run_on_file_spec : {M : Type 1} → statement M
+run_on_file_spec =
     tie.close
     (tie.spec
     (λ c κs. search rules)

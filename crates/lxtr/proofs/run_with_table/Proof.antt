@@ -6,8 +6,8 @@ use lib.Seq.{length-take-le}
 use Rattle.lxtr.proofs.run_with_table.Statement.{statement}
 use Rattle.lxtr.proofs.run_with_table.Tie as tie
 
-pub run-with-table-spec : {M : Type 1} → statement M
-run-with-table-spec =
+pub run_with_table_spec : {M : Type 1} → statement M
+run_with_table_spec =
     tie.close
     (tie.spec
     (λ c κs. search rules)

@@ -6,8 +6,8 @@ use lib.Seq.{length-take-le}
 use Rattle.lxtr.proofs.search_labels.Statement.{statement}
 use Rattle.lxtr.proofs.search_labels.Tie as tie
 
-pub search-labels-spec : {M : Type 1} → statement M
-search-labels-spec =
+pub search_labels_spec : {M : Type 1} → statement M
+search_labels_spec =
     tie.close
     (tie.spec
     (λ c. search rules)

@@ -4,8 +4,8 @@ use Rattle.lxtr.specs.Parts.{labels_within_lem}
 use Rattle.lxtr.proofs.search_word.Statement.{statement}
 use Rattle.lxtr.proofs.search_word.Tie as tie
 
-pub search-word-spec : {M : Type 1} → statement M
-search-word-spec =
+pub search_word_spec : {M : Type 1} → statement M
+search_word_spec =
     tie.close
     (tie.spec
     (λ c κs. search rules)

@@ -5,9 +5,9 @@ use Rattle.lxtr_arguments.specs.CommandRows.{this_row, next_row}
 use Rattle.lxtr_arguments.proofs.command.Statement.{statement}
 use Rattle.lxtr_arguments.proofs.command.Tie as tie
 
-pub command-spec : {M : Type 1} → statement M
+pub command_spec : {M : Type 1} → statement M
 unfolding ascii_from ascii command_of
-command-spec =
+command_spec =
     tie.close
     (tie.spec
     (λ c. search rules)

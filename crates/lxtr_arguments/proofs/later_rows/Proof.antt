@@ -5,9 +5,9 @@ use Rattle.lxtr_arguments.specs.CommandRows.{this_row, next_row}
 use Rattle.lxtr_arguments.proofs.later_rows.Statement.{statement}
 use Rattle.lxtr_arguments.proofs.later_rows.Tie as tie
 
-pub later-rows-spec : {M : Type 1} → statement M
+pub later_rows_spec : {M : Type 1} → statement M
 unfolding ascii_from ascii later_rows
-later-rows-spec =
+later_rows_spec =
     tie.close
     (tie.spec
     (λ c. search rules)

@@ -13,8 +13,8 @@ invariant-loop a b i₀ i = SameSoFar a b i
 abbrev decreases-loop : tie.decreases-loop
 decreases-loop a b i₀ i = length a - i
 
-pub same-bytes-spec : {M : Type 1} → statement M
-same-bytes-spec =
+pub same_bytes_spec : {M : Type 1} → statement M
+same_bytes_spec =
     tie.close
     (tie.spec
     invariant-loop

@@ -5,9 +5,9 @@ use Rattle.lxtr_arguments.specs.CommandRows.{this_row, next_row}
 use Rattle.lxtr_arguments.proofs.table_rows.Statement.{statement}
 use Rattle.lxtr_arguments.proofs.table_rows.Tie as tie
 
-pub table-rows-spec : {M : Type 1} → statement M
+pub table_rows_spec : {M : Type 1} → statement M
 unfolding ascii_from ascii table_rows
-table-rows-spec =
+table_rows_spec =
     tie.close
     (tie.spec
     (λ c. search rules)

@@ -3,8 +3,8 @@ use Rattle.lxtr_arguments.specs.CommandRows.{taken_right, taken_wrong}
 use Rattle.lxtr_arguments.proofs.taking.Statement.{statement}
 use Rattle.lxtr_arguments.proofs.taking.Tie as tie
 
-pub taking-spec : {M : Type 1} → statement M
-taking-spec =
+pub taking_spec : {M : Type 1} → statement M
+taking_spec =
     tie.close
     (tie.spec
     (λ c. search taken_right)

@@ -5,8 +5,8 @@ use Rattle.lxtr_build.specs.Clearing.{cleared}
 use Rattle.lxtr_build.proofs.build.Statement.{statement}
 use Rattle.lxtr_build.proofs.build.Tie as tie
 
-pub build-spec : {M : Type 1} → statement M
-build-spec =
+pub build_spec : {M : Type 1} → statement M
+build_spec =
     tie.close
     (tie.spec
     (λ c. search work_small)

@@ -4,8 +4,8 @@ use Rattle.lxtr_build.specs.BuildReturns.{keys_refused, keys_pass, keys_built}
 use Rattle.lxtr_build.proofs.build_cleared.Statement.{statement}
 use Rattle.lxtr_build.proofs.build_cleared.Tie as tie
 
-pub build-cleared-spec : {M : Type 1} → statement M
-build-cleared-spec =
+pub build_cleared_spec : {M : Type 1} → statement M
+build_cleared_spec =
     tie.close
     (tie.spec
     (λ c κs. search rules)

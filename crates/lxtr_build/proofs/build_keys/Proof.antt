@@ -7,8 +7,8 @@ use Rattle.lxtr_build.specs.BuildReturns.{labels_many, tables_made, labels_built
 use Rattle.lxtr_build.proofs.build_keys.Statement.{statement}
 use Rattle.lxtr_build.proofs.build_keys.Tie as tie
 
-pub build-keys-spec : {M : Type 1} → statement M
-build-keys-spec =
+pub build_keys_spec : {M : Type 1} → statement M
+build_keys_spec =
     tie.close
     (tie.spec
     (λ c. search rules)

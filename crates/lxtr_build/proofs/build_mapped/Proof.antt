@@ -4,8 +4,8 @@ use Rattle.lxtr_build.specs.BuildReturns.{placed_not, image_ready, placed_built}
 use Rattle.lxtr_build.proofs.build_mapped.Statement.{statement}
 use Rattle.lxtr_build.proofs.build_mapped.Tie as tie
 
-pub build-mapped-spec : {M : Type 1} → statement M
-build-mapped-spec =
+pub build_mapped_spec : {M : Type 1} → statement M
+build_mapped_spec =
     tie.close
     (tie.spec
     (λ c κs. search rules)

@@ -4,8 +4,8 @@ use Rattle.lxtr_c.specs.EntryNumbers.{build_number}
 use Rattle.lxtr_c.proofs.lxtr_build.Statement.{statement}
 use Rattle.lxtr_c.proofs.lxtr_build.Tie as tie
 
-pub lxtr-build-spec : {M : Type 1} → statement M
-lxtr-build-spec =
+pub lxtr_build_spec : {M : Type 1} → statement M
+lxtr_build_spec =
     tie.close
     (tie.spec
     (λ c κs. search rules)

@@ -4,8 +4,8 @@ use Rattle.lxtr_c.specs.EntryNumbers.{completion_number_lem}
 use Rattle.lxtr_c.proofs.lxtr_complete.Statement.{statement}
 use Rattle.lxtr_c.proofs.lxtr_complete.Tie as tie
 
-pub lxtr-complete-spec : {M : Type 1} → statement M
-lxtr-complete-spec =
+pub lxtr_complete_spec : {M : Type 1} → statement M
+lxtr_complete_spec =
     tie.close
     (tie.spec
     (λ c κs. search rules)

@@ -4,8 +4,8 @@ use Rattle.lxtr_c.specs.TableNumbers.{entries_refused, entries_put}
 use Rattle.lxtr_c.proofs.lxtr_entries.Statement.{statement}
 use Rattle.lxtr_c.proofs.lxtr_entries.Tie as tie
 
-pub lxtr-entries-spec : {M : Type 1} → statement M
-lxtr-entries-spec =
+pub lxtr_entries_spec : {M : Type 1} → statement M
+lxtr_entries_spec =
     tie.close
     (tie.spec
     (λ c κs. search rules)

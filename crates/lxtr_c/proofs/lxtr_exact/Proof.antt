@@ -6,8 +6,8 @@ use Rattle.lxtr_c.specs.EntryNumbers.{exact_refused, exact_nowhere, exact_reache
 use Rattle.lxtr_c.proofs.lxtr_exact.Statement.{statement}
 use Rattle.lxtr_c.proofs.lxtr_exact.Tie as tie
 
-pub lxtr-exact-spec : {M : Type 1} → statement M
-lxtr-exact-spec =
+pub lxtr_exact_spec : {M : Type 1} → statement M
+lxtr_exact_spec =
     tie.close
     (tie.spec
     (λ c κs. search rules)

@@ -4,8 +4,8 @@ use Rattle.lxtr_c.specs.EntryNumbers.{fault_number_lem}
 use Rattle.lxtr_c.proofs.lxtr_fault.Statement.{statement}
 use Rattle.lxtr_c.proofs.lxtr_fault.Tie as tie
 
-pub lxtr-fault-spec : {M : Type 1} → statement M
-lxtr-fault-spec =
+pub lxtr_fault_spec : {M : Type 1} → statement M
+lxtr_fault_spec =
     tie.close
     (tie.spec
     (λ c κs. search rules)

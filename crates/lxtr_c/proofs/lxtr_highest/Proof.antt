@@ -4,8 +4,8 @@ use Rattle.lxtr_c.specs.EntryNumbers.{highest_number_lem}
 use Rattle.lxtr_c.proofs.lxtr_highest.Statement.{statement}
 use Rattle.lxtr_c.proofs.lxtr_highest.Tie as tie
 
-pub lxtr-highest-spec : {M : Type 1} → statement M
-lxtr-highest-spec =
+pub lxtr_highest_spec : {M : Type 1} → statement M
+lxtr_highest_spec =
     tie.close
     (tie.spec
     (λ c κs. search rules)

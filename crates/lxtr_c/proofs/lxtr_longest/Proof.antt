@@ -5,8 +5,8 @@ use Rattle.lxtr_c.specs.EntryNumbers.{longest_fits, longest_number_lem}
 use Rattle.lxtr_c.proofs.lxtr_longest.Statement.{statement}
 use Rattle.lxtr_c.proofs.lxtr_longest.Tie as tie
 
-pub lxtr-longest-spec : {M : Type 1} → statement M
-lxtr-longest-spec =
+pub lxtr_longest_spec : {M : Type 1} → statement M
+lxtr_longest_spec =
     tie.close
     (tie.spec
     (λ c κs. search rules)

@@ -4,8 +4,8 @@ use Rattle.lxtr_c.specs.PositionNumbers.{back_number}
 use Rattle.lxtr_c.proofs.lxtr_position_back.Statement.{statement}
 use Rattle.lxtr_c.proofs.lxtr_position_back.Tie as tie
 
-pub lxtr-position-back-spec : {M : Type 1} → statement M
-lxtr-position-back-spec =
+pub lxtr_position_back_spec : {M : Type 1} → statement M
+lxtr_position_back_spec =
     tie.close
     (tie.spec
     (λ c κs. search rules)

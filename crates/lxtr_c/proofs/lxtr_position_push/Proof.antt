@@ -4,8 +4,8 @@ use Rattle.lxtr_c.specs.PositionNumbers.{push_number}
 use Rattle.lxtr_c.proofs.lxtr_position_push.Statement.{statement}
 use Rattle.lxtr_c.proofs.lxtr_position_push.Tie as tie
 
-pub lxtr-position-push-spec : {M : Type 1} → statement M
-lxtr-position-push-spec =
+pub lxtr_position_push_spec : {M : Type 1} → statement M
+lxtr_position_push_spec =
     tie.close
     (tie.spec
     (λ c κs. search rules)

@@ -4,8 +4,8 @@ use Rattle.lxtr_c.specs.EntryNumbers.{prefixes_refused, prefixes_passed}
 use Rattle.lxtr_c.proofs.lxtr_prefixes.Statement.{statement}
 use Rattle.lxtr_c.proofs.lxtr_prefixes.Tie as tie
 
-pub lxtr-prefixes-spec : {M : Type 1} → statement M
-lxtr-prefixes-spec =
+pub lxtr_prefixes_spec : {M : Type 1} → statement M
+lxtr_prefixes_spec =
     tie.close
     (tie.spec
     (λ c κs. search rules)

@@ -4,8 +4,8 @@ use Rattle.lxtr_c.specs.TypingNumbers.{finish_number}
 use Rattle.lxtr_c.proofs.lxtr_romaji_finish.Statement.{statement}
 use Rattle.lxtr_c.proofs.lxtr_romaji_finish.Tie as tie
 
-pub lxtr-romaji-finish-spec : {M : Type 1} → statement M
-lxtr-romaji-finish-spec =
+pub lxtr_romaji_finish_spec : {M : Type 1} → statement M
+lxtr_romaji_finish_spec =
     tie.close
     (tie.spec
     (λ c κs. search rules)

@@ -4,8 +4,8 @@ use Rattle.lxtr_c.specs.TypingNumbers.{type_number}
 use Rattle.lxtr_c.proofs.lxtr_romaji_type.Statement.{statement}
 use Rattle.lxtr_c.proofs.lxtr_romaji_type.Tie as tie
 
-pub lxtr-romaji-type-spec : {M : Type 1} → statement M
-lxtr-romaji-type-spec =
+pub lxtr_romaji_type_spec : {M : Type 1} → statement M
+lxtr_romaji_type_spec =
     tie.close
     (tie.spec
     (λ c κs. search rules)

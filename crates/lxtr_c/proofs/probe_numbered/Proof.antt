@@ -4,8 +4,8 @@ use Rattle.lxtr_c.specs.EntryNumbers.{probe_numbered_lem}
 use Rattle.lxtr_c.proofs.probe_numbered.Statement.{statement}
 use Rattle.lxtr_c.proofs.probe_numbered.Tie as tie
 
-pub probe-numbered-spec : {M : Type 1} → statement M
-probe-numbered-spec =
+pub probe_numbered_spec : {M : Type 1} → statement M
+probe_numbered_spec =
     tie.close
     (tie.spec
     (λ c κs. search rules)

@@ -4,8 +4,8 @@ use Rattle.lxtr_c.specs.TypingNumbers.{state_stays, state_put}
 use Rattle.lxtr_c.proofs.typing_answered.Statement.{statement}
 use Rattle.lxtr_c.proofs.typing_answered.Tie as tie
 
-pub typing-answered-spec : {M : Type 1} → statement M
-typing-answered-spec =
+pub typing_answered_spec : {M : Type 1} → statement M
+typing_answered_spec =
     tie.close
     (tie.spec
     (λ c. search rules)

@@ -7,9 +7,9 @@ use Rattle.lxtr_laws.specs.RefusalChains.{chain}
 use Rattle.lxtr_check.proofs.body_refusal.Statement.{statement}
 use Rattle.lxtr_check.proofs.body_refusal.Tie as tie
 
-pub body-refusal-spec : {M : Type 1} → statement M
+pub body_refusal_spec : {M : Type 1} → statement M
 unfolding body_refusal
-body-refusal-spec =
+body_refusal_spec =
     tie.close
     (tie.spec
     (λ c κs. search rules)

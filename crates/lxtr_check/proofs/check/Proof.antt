@@ -4,8 +4,8 @@ use Rattle.lxtr_check.specs.Checks.{check_refused, check_counted, check_allowed}
 use Rattle.lxtr_check.proofs.check.Statement.{statement}
 use Rattle.lxtr_check.proofs.check.Tie as tie
 
-pub check-spec : {M : Type 1} → statement M
-check-spec =
+pub check_spec : {M : Type 1} → statement M
+check_spec =
     tie.close
     (tie.spec
     (λ c κs. search rules)

@@ -15,9 +15,9 @@ invariant-loop image slots ends₀ s₀ ends s = (slots ≡ slot_count image) ×
 abbrev decreases-loop : tie.decreases-loop
 decreases-loop image slots ends₀ s₀ ends s = slots - s
 
-pub end-count-spec : {M : Type 1} → statement M
+pub end_count_spec : {M : Type 1} → statement M
 unfolding end_count
-end-count-spec =
+end_count_spec =
     tie.close
     (tie.spec
     invariant-loop

@@ -4,8 +4,8 @@ use Rattle.lxtr_check.specs.Checks.{header_refused, header_allowed, body_refused
 use Rattle.lxtr_check.proofs.image_refusal.Statement.{statement}
 use Rattle.lxtr_check.proofs.image_refusal.Tie as tie
 
-pub image-refusal-spec : {M : Type 1} → statement M
-image-refusal-spec =
+pub image_refusal_spec : {M : Type 1} → statement M
+image_refusal_spec =
     tie.close
     (tie.spec
     (λ c κs. search rules)

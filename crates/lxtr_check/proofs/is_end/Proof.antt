@@ -4,9 +4,9 @@ use Rattle.lxtr_spec.specs.Refusals.{is_end}
 use Rattle.lxtr_check.proofs.is_end.Statement.{statement}
 use Rattle.lxtr_check.proofs.is_end.Tie as tie
 
-pub is-end-spec : {M : Type 1} → statement M
+pub is_end_spec : {M : Type 1} → statement M
 unfolding is_end
-is-end-spec =
+is_end_spec =
     tie.close
     (tie.spec
     (λ c κs. search rules)

@@ -23,8 +23,8 @@ tested c = c.before.before.before
 abbrev loop : tie.After-label-wrong invariant-loop decreases-loop → tie.At-loop invariant-loop decreases-loop
 loop c = c.before.before.before.before
 
-pub first-wrong-label-spec : {M : Type 1} → statement M
-first-wrong-label-spec =
+pub first_wrong_label_spec : {M : Type 1} → statement M
+first_wrong_label_spec =
     tie.close
     (tie.spec
     invariant-loop

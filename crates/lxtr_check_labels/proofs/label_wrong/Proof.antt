@@ -4,8 +4,8 @@ use Rattle.lxtr_check_labels.specs.Chains.{label_no_scalar, label_by_chain}
 use Rattle.lxtr_check_labels.proofs.label_wrong.Statement.{statement}
 use Rattle.lxtr_check_labels.proofs.label_wrong.Tie as tie
 
-pub label-wrong-spec : {M : Type 1} → statement M
-label-wrong-spec =
+pub label_wrong_spec : {M : Type 1} → statement M
+label_wrong_spec =
     tie.close
     (tie.spec
     (λ c κs. search rules)

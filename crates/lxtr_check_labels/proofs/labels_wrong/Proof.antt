@@ -5,9 +5,9 @@ use Rattle.lxtr_laws.specs.Firsts.{test_first}
 use Rattle.lxtr_check_labels.proofs.labels_wrong.Statement.{statement}
 use Rattle.lxtr_check_labels.proofs.labels_wrong.Tie as tie
 
-pub labels-wrong-spec : {M : Type 1} → statement M
+pub labels_wrong_spec : {M : Type 1} → statement M
 unfolding labels_wrong
-labels-wrong-spec =
+labels_wrong_spec =
     tie.close
     (tie.spec
     (λ c κs. search rules)

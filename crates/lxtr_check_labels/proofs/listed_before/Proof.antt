@@ -13,8 +13,8 @@ invariant-loop image i last before label entry₀ entry = (label ≡ label_at im
 abbrev decreases-loop : tie.decreases-loop
 decreases-loop image i last before label entry₀ entry = entry
 
-pub listed-before-spec : {M : Type 1} → statement M
-listed-before-spec =
+pub listed_before_spec : {M : Type 1} → statement M
+listed_before_spec =
     tie.close
     (tie.spec
     invariant-loop

@@ -4,8 +4,8 @@ use Rattle.lxtr_check_labels.specs.Chains.{chain_there, place_there, chained_nex
 use Rattle.lxtr_check_labels.proofs.put_last.Statement.{statement}
 use Rattle.lxtr_check_labels.proofs.put_last.Tie as tie
 
-pub put-last-spec : {M : Type 1} → statement M
-put-last-spec =
+pub put_last_spec : {M : Type 1} → statement M
+put_last_spec =
     tie.close
     (tie.spec
     (λ c κs. search rules)

@@ -4,9 +4,9 @@ use Rattle.lxtr_spec.specs.Refusals.{childless}
 use Rattle.lxtr_check_lists.proofs.childless.Statement.{statement}
 use Rattle.lxtr_check_lists.proofs.childless.Tie as tie
 
-pub childless-spec : {M : Type 1} → statement M
+pub childless_spec : {M : Type 1} → statement M
 unfolding childless
-childless-spec =
+childless_spec =
     tie.close
     (tie.spec
     (λ c κs. search rules)

@@ -4,8 +4,8 @@ use Rattle.lxtr_check_lists.specs.ListTests.{code_first, code_later}
 use Rattle.lxtr_check_lists.proofs.code_not_above.Statement.{statement}
 use Rattle.lxtr_check_lists.proofs.code_not_above.Tie as tie
 
-pub code-not-above-spec : {M : Type 1} → statement M
-code-not-above-spec =
+pub code_not_above_spec : {M : Type 1} → statement M
+code_not_above_spec =
     tie.close
     (tie.spec
     (λ c κs. search rules)

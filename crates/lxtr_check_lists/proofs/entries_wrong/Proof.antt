@@ -5,9 +5,9 @@ use Rattle.lxtr_laws.specs.Firsts.{test_first}
 use Rattle.lxtr_check_lists.proofs.entries_wrong.Statement.{statement}
 use Rattle.lxtr_check_lists.proofs.entries_wrong.Tie as tie
 
-pub entries-wrong-spec : {M : Type 1} → statement M
+pub entries_wrong_spec : {M : Type 1} → statement M
 unfolding entries_wrong
-entries-wrong-spec =
+entries_wrong_spec =
     tie.close
     (tie.spec
     (λ c κs. search rules)

@@ -4,8 +4,8 @@ use Rattle.lxtr_check_lists.specs.ListTests.{entry_past, entry_tested}
 use Rattle.lxtr_check_lists.proofs.entry_wrong.Statement.{statement}
 use Rattle.lxtr_check_lists.proofs.entry_wrong.Tie as tie
 
-pub entry-wrong-spec : {M : Type 1} → statement M
-entry-wrong-spec =
+pub entry_wrong_spec : {M : Type 1} → statement M
+entry_wrong_spec =
     tie.close
     (tie.spec
     (λ c κs. search rules)

@@ -4,9 +4,9 @@ use Rattle.lxtr_spec.specs.Refusals.{entry_wrong_in}
 use Rattle.lxtr_check_lists.proofs.entry_wrong_in.Statement.{statement}
 use Rattle.lxtr_check_lists.proofs.entry_wrong_in.Tie as tie
 
-pub entry-wrong-in-spec : {M : Type 1} → statement M
+pub entry_wrong_in_spec : {M : Type 1} → statement M
 unfolding entry_wrong_in
-entry-wrong-in-spec =
+entry_wrong_in_spec =
     tie.close
     (tie.spec
     (λ c κs. search rules)

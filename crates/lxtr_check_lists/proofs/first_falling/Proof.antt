@@ -14,8 +14,8 @@ invariant-loop image slots p₀ p = (slots ≡ slot_count image) × NoneSoFar (o
 abbrev decreases-loop : tie.decreases-loop
 decreases-loop image slots p₀ p = slots - p
 
-pub first-falling-spec : {M : Type 1} → statement M
-first-falling-spec =
+pub first_falling_spec : {M : Type 1} → statement M
+first_falling_spec =
     tie.close
     (tie.spec
     invariant-loop

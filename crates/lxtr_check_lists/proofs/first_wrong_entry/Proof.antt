@@ -15,8 +15,8 @@ invariant-loop image p width i₀ i = (width ≡ list_width image p) × NoneSoFa
 abbrev decreases-loop : tie.decreases-loop
 decreases-loop image p width i₀ i = width - i
 
-pub first-wrong-entry-spec : {M : Type 1} → statement M
-first-wrong-entry-spec =
+pub first_wrong_entry_spec : {M : Type 1} → statement M
+first_wrong_entry_spec =
     tie.close
     (tie.spec
     invariant-loop

@@ -14,8 +14,8 @@ invariant-loop image slots p₀ p = (slots ≡ slot_count image) × NoneSoFar (e
 abbrev decreases-loop : tie.decreases-loop
 decreases-loop image slots p₀ p = slots - p
 
-pub first-wrong-list-spec : {M : Type 1} → statement M
-first-wrong-list-spec =
+pub first_wrong_list_spec : {M : Type 1} → statement M
+first_wrong_list_spec =
     tie.close
     (tie.spec
     invariant-loop

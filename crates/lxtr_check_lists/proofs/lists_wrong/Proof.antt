@@ -5,8 +5,8 @@ use Rattle.lxtr_laws.specs.Tests.{outcome}
 use Rattle.lxtr_check_lists.proofs.lists_wrong.Statement.{statement}
 use Rattle.lxtr_check_lists.proofs.lists_wrong.Tie as tie
 
-pub lists-wrong-spec : {M : Type 1} → statement M
-lists-wrong-spec =
+pub lists_wrong_spec : {M : Type 1} → statement M
+lists_wrong_spec =
     tie.close
     (tie.spec
     (λ c κs. search rules)

@@ -4,9 +4,9 @@ use Rattle.lxtr_spec.specs.Refusals.{offset_falls}
 use Rattle.lxtr_check_lists.proofs.offset_falls.Statement.{statement}
 use Rattle.lxtr_check_lists.proofs.offset_falls.Tie as tie
 
-pub offset-falls-spec : {M : Type 1} → statement M
+pub offset_falls_spec : {M : Type 1} → statement M
 unfolding offset_falls
-offset-falls-spec =
+offset_falls_spec =
     tie.close
     (tie.spec
     (λ c. search rules)

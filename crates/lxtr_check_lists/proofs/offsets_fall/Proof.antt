@@ -4,8 +4,8 @@ use Rattle.lxtr_laws.specs.Firsts.{test_first}
 use Rattle.lxtr_check_lists.proofs.offsets_fall.Statement.{statement}
 use Rattle.lxtr_check_lists.proofs.offsets_fall.Tie as tie
 
-pub offsets-fall-spec : {M : Type 1} → statement M
-offsets-fall-spec =
+pub offsets_fall_spec : {M : Type 1} → statement M
+offsets_fall_spec =
     tie.close
     (tie.spec
     (λ c κs. search rules)

@@ -4,9 +4,9 @@ use Rattle.lxtr_spec.specs.Refusals.{root_wrong}
 use Rattle.lxtr_check_lists.proofs.root_wrong.Statement.{statement}
 use Rattle.lxtr_check_lists.proofs.root_wrong.Tie as tie
 
-pub root-wrong-spec : {M : Type 1} → statement M
+pub root_wrong_spec : {M : Type 1} → statement M
 unfolding root_wrong
-root-wrong-spec =
+root_wrong_spec =
     tie.close
     (tie.spec
     (λ c κs. search rules)

@@ -14,8 +14,8 @@ invariant-loop image slots found₀ s₀ found s = (slots ≡ slot_count image) 
 abbrev decreases-loop : tie.decreases-loop
 decreases-loop image slots found₀ s₀ found s = slots - s
 
-pub some-childless-spec : {M : Type 1} → statement M
-some-childless-spec =
+pub some_childless_spec : {M : Type 1} → statement M
+some_childless_spec =
     tie.close
     (tie.spec
     invariant-loop

@@ -4,8 +4,8 @@ use Rattle.lxtr_laws.specs.Firsts.{test_first}
 use Rattle.lxtr_check_lists.proofs.some_entries_wrong.Statement.{statement}
 use Rattle.lxtr_check_lists.proofs.some_entries_wrong.Tie as tie
 
-pub some-entries-wrong-spec : {M : Type 1} → statement M
-some-entries-wrong-spec =
+pub some_entries_wrong_spec : {M : Type 1} → statement M
+some_entries_wrong_spec =
     tie.close
     (tie.spec
     (λ c κs. search rules)

@@ -15,9 +15,9 @@ invariant-loop image slots used₀ s₀ used s = (slots ≡ slot_count image) ×
 abbrev decreases-loop : tie.decreases-loop
 decreases-loop image slots used₀ s₀ used s = slots - s
 
-pub used-count-spec : {M : Type 1} → statement M
+pub used_count_spec : {M : Type 1} → statement M
 unfolding used_count
-used-count-spec =
+used_count_spec =
     tie.close
     (tie.spec
     invariant-loop

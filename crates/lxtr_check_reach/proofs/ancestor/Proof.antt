@@ -10,8 +10,8 @@ invariant-loop image s steps at₀ left₀ at left = Ascending image steps s lef
 abbrev decreases-loop : tie.decreases-loop
 decreases-loop image s steps at₀ left₀ at left = left
 
-pub ancestor-spec : {M : Type 1} → statement M
-ancestor-spec =
+pub ancestor_spec : {M : Type 1} → statement M
+ancestor_spec =
     tie.close
     (tie.spec
     invariant-loop

@@ -14,8 +14,8 @@ invariant-loop image slots s₀ s = (slots ≡ slot_count image) × NoneSoFar (u
 abbrev decreases-loop : tie.decreases-loop
 decreases-loop image slots s₀ s = slots - s
 
-pub first-unreachable-spec : {M : Type 1} → statement M
-first-unreachable-spec =
+pub first_unreachable_spec : {M : Type 1} → statement M
+first_unreachable_spec =
     tie.close
     (tie.spec
     invariant-loop

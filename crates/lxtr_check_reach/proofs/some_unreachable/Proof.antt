@@ -5,9 +5,9 @@ use Rattle.lxtr_laws.specs.Firsts.{test_first}
 use Rattle.lxtr_check_reach.proofs.some_unreachable.Statement.{statement}
 use Rattle.lxtr_check_reach.proofs.some_unreachable.Tie as tie
 
-pub some-unreachable-spec : {M : Type 1} → statement M
+pub some_unreachable_spec : {M : Type 1} → statement M
 unfolding some_unreachable
-some-unreachable-spec =
+some_unreachable_spec =
     tie.close
     (tie.spec
     (λ c κs. search rules)

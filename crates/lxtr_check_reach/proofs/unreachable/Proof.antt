@@ -13,9 +13,9 @@ invariant-loop image s at₀ left₀ at left = Ascending image (suc length_count
 abbrev decreases-loop : tie.decreases-loop
 decreases-loop image s at₀ left₀ at left = left
 
-pub unreachable-spec : {M : Type 1} → statement M
+pub unreachable_spec : {M : Type 1} → statement M
 unfolding max_labels
-unreachable-spec =
+unreachable_spec =
     tie.close
     (tie.spec
     invariant-loop

@@ -4,9 +4,9 @@ use Rattle.lxtr_spec.specs.Refusals.{both_zero}
 use Rattle.lxtr_check_slots.proofs.both_zero.Statement.{statement}
 use Rattle.lxtr_check_slots.proofs.both_zero.Tie as tie
 
-pub both-zero-spec : {M : Type 1} → statement M
+pub both_zero_spec : {M : Type 1} → statement M
 unfolding both_zero
-both-zero-spec =
+both_zero_spec =
     tie.close
     (tie.spec
     (λ c κs. search rules)

@@ -4,9 +4,9 @@ use Rattle.lxtr_spec.specs.Refusals.{end_exists}
 use Rattle.lxtr_check_slots.proofs.end_exists.Statement.{statement}
 use Rattle.lxtr_check_slots.proofs.end_exists.Tie as tie
 
-pub end-exists-spec : {M : Type 1} → statement M
+pub end_exists_spec : {M : Type 1} → statement M
 unfolding end_exists
-end-exists-spec =
+end_exists_spec =
     tie.close
     (tie.spec
     (λ c κs. search rules)

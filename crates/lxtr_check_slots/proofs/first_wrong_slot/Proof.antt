@@ -14,8 +14,8 @@ invariant-loop image slots s₀ s = (slots ≡ slot_count image) × NoneSoFar (s
 abbrev decreases-loop : tie.decreases-loop
 decreases-loop image slots s₀ s = slots - s
 
-pub first-wrong-slot-spec : {M : Type 1} → statement M
-first-wrong-slot-spec =
+pub first_wrong_slot_spec : {M : Type 1} → statement M
+first_wrong_slot_spec =
     tie.close
     (tie.spec
     invariant-loop

@@ -4,9 +4,9 @@ use Rattle.lxtr_spec.specs.Refusals.{flag_wrong}
 use Rattle.lxtr_check_slots.proofs.flag_wrong.Statement.{statement}
 use Rattle.lxtr_check_slots.proofs.flag_wrong.Tie as tie
 
-pub flag-wrong-spec : {M : Type 1} → statement M
+pub flag_wrong_spec : {M : Type 1} → statement M
 unfolding flag_wrong
-flag-wrong-spec =
+flag_wrong_spec =
     tie.close
     (tie.spec
     (λ c κs. search rules)

@@ -4,9 +4,9 @@ use Rattle.lxtr_spec.specs.Refusals.{is_used}
 use Rattle.lxtr_check_slots.proofs.is_used.Statement.{statement}
 use Rattle.lxtr_check_slots.proofs.is_used.Tie as tie
 
-pub is-used-spec : {M : Type 1} → statement M
+pub is_used_spec : {M : Type 1} → statement M
 unfolding is_used
-is-used-spec =
+is_used_spec =
     tie.close
     (tie.spec
     (λ c κs. search rules)

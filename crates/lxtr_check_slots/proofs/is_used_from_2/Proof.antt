@@ -4,9 +4,9 @@ use Rattle.lxtr_spec.specs.Refusals.{is_used_from2}
 use Rattle.lxtr_check_slots.proofs.is_used_from_2.Statement.{statement}
 use Rattle.lxtr_check_slots.proofs.is_used_from_2.Tie as tie
 
-pub is-used-from-2-spec : {M : Type 1} → statement M
+pub is_used_from_2_spec : {M : Type 1} → statement M
 unfolding is_used_from2
-is-used-from-2-spec =
+is_used_from_2_spec =
     tie.close
     (tie.spec
     (λ c κs. search rules)

@@ -4,8 +4,8 @@ use Rattle.lxtr_check_slots.specs.SlotTests.{slot_zero, slot_one, slot_unused, s
 use Rattle.lxtr_check_slots.proofs.slot_wrong.Statement.{statement}
 use Rattle.lxtr_check_slots.proofs.slot_wrong.Tie as tie
 
-pub slot-wrong-spec : {M : Type 1} → statement M
-slot-wrong-spec =
+pub slot_wrong_spec : {M : Type 1} → statement M
+slot_wrong_spec =
     tie.close
     (tie.spec
     (λ c κs. search rules)

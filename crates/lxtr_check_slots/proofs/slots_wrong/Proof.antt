@@ -5,9 +5,9 @@ use Rattle.lxtr_laws.specs.Firsts.{test_first}
 use Rattle.lxtr_check_slots.proofs.slots_wrong.Statement.{statement}
 use Rattle.lxtr_check_slots.proofs.slots_wrong.Tie as tie
 
-pub slots-wrong-spec : {M : Type 1} → statement M
+pub slots_wrong_spec : {M : Type 1} → statement M
 unfolding slots_wrong
-slots-wrong-spec =
+slots_wrong_spec =
     tie.close
     (tie.spec
     (λ c κs. search rules)

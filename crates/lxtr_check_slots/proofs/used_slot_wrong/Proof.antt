@@ -4,8 +4,8 @@ use Rattle.lxtr_check_slots.specs.SlotTests.{parent_past, parent_tested}
 use Rattle.lxtr_check_slots.proofs.used_slot_wrong.Statement.{statement}
 use Rattle.lxtr_check_slots.proofs.used_slot_wrong.Tie as tie
 
-pub used-slot-wrong-spec : {M : Type 1} → statement M
-used-slot-wrong-spec =
+pub used_slot_wrong_spec : {M : Type 1} → statement M
+used_slot_wrong_spec =
     tie.close
     (tie.spec
     (λ c κs. search rules)

@@ -6,8 +6,8 @@ use Rattle.lxtr_codes.specs.Mapping.{counts_few, counts_fit, order_few, order_fi
 use Rattle.lxtr_codes.proofs.code_labels.Statement.{statement}
 use Rattle.lxtr_codes.proofs.code_labels.Tie as tie
 
-pub code-labels-spec : {M : Type 1} → statement M
-code-labels-spec =
+pub code_labels_spec : {M : Type 1} → statement M
+code_labels_spec =
     tie.close
     (tie.spec
     (λ c κs. search rules)

@@ -6,8 +6,8 @@ use Rattle.lxtr_codes.specs.Mapping.{too_many, labels_known, labels_few, mapped}
 use Rattle.lxtr_codes.proofs.code_map.Statement.{statement}
 use Rattle.lxtr_codes.proofs.code_map.Tie as tie
 
-pub code-map-spec : {M : Type 1} → statement M
-code-map-spec =
+pub code_map_spec : {M : Type 1} → statement M
+code_map_spec =
     tie.close
     (tie.spec
     (λ c. search rules)

@@ -5,9 +5,9 @@ use Rattle.lxtr_complete.specs.Completing.{completion_refused, completion_accept
 use Rattle.lxtr_complete.proofs.complete.Statement.{statement}
 use Rattle.lxtr_complete.proofs.complete.Tie as tie
 
-pub complete-spec : {M : Type 1} → statement M
+pub complete_spec : {M : Type 1} → statement M
 unfolding completion_answer
-complete-spec =
+complete_spec =
     tie.close
     (tie.spec
     (λ c κs. search rules)

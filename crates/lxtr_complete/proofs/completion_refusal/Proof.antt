@@ -5,8 +5,8 @@ use Rattle.lxtr_complete.specs.Completing.{search_stands, body_stands, room_refu
 use Rattle.lxtr_complete.proofs.completion_refusal.Statement.{statement}
 use Rattle.lxtr_complete.proofs.completion_refusal.Tie as tie
 
-pub completion-refusal-spec : {M : Type 1} → statement M
-completion-refusal-spec =
+pub completion_refusal_spec : {M : Type 1} → statement M
+completion_refusal_spec =
     tie.close
     (tie.spec
     (λ c κs. search rules)

@@ -15,8 +15,8 @@ invariant-loop query path₀ count i₀ path i = (count ≡ length (labels_of qu
 abbrev decreases-loop : tie.decreases-loop
 decreases-loop query path₀ count i₀ path i = count - i
 
-pub fill-path-spec : {M : Type 1} → statement M
-fill-path-spec =
+pub fill_path_spec : {M : Type 1} → statement M
+fill_path_spec =
     tie.close
     (tie.spec
     invariant-loop

@@ -5,9 +5,9 @@ use Rattle.lxtr_complete.specs.Completing.{written_none}
 use Rattle.lxtr_complete.proofs.list_none.Statement.{statement}
 use Rattle.lxtr_complete.proofs.list_none.Tie as tie
 
-pub list-none-spec : {M : Type 1} → statement M
+pub list_none_spec : {M : Type 1} → statement M
 unfolding completion_answer
-list-none-spec =
+list_none_spec =
     tie.close
     (tie.spec
     (λ c κs. search rules)

@@ -6,8 +6,8 @@ use Rattle.lxtr_complete.specs.Completing.{listed_nowhere, listed_reached}
 use Rattle.lxtr_complete.proofs.list_pairs.Statement.{statement}
 use Rattle.lxtr_complete.proofs.list_pairs.Tie as tie
 
-pub list-pairs-spec : {M : Type 1} → statement M
-list-pairs-spec =
+pub list_pairs_spec : {M : Type 1} → statement M
+list_pairs_spec =
     tie.close
     (tie.spec
     (λ c κs. search accepted_passed)

@@ -6,9 +6,9 @@ use Rattle.lxtr_complete.specs.Completing.{list_ready, reached_done}
 use Rattle.lxtr_complete.proofs.list_reached.Statement.{statement}
 use Rattle.lxtr_complete.proofs.list_reached.Tie as tie
 
-pub list-reached-spec : {M : Type 1} → statement M
+pub list_reached_spec : {M : Type 1} → statement M
 unfolding max_labels
-list-reached-spec =
+list_reached_spec =
     tie.close
     (tie.spec
     (λ c. search rules)

@@ -5,9 +5,9 @@ use Rattle.lxtr_complete.specs.Completing.{count_fits, written_all}
 use Rattle.lxtr_complete.proofs.list_with_head.Statement.{statement}
 use Rattle.lxtr_complete.proofs.list_with_head.Tie as tie
 
-pub list-with-head-spec : {M : Type 1} → statement M
+pub list_with_head_spec : {M : Type 1} → statement M
 unfolding completion_answer
-list-with-head-spec =
+list_with_head_spec =
     tie.close
     (tie.spec
     (λ c κs. (search rules, search rules))

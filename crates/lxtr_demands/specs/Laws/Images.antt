@@ -4,7 +4,7 @@ use Rattle.std.specs.Prelude.{ℕ, zero, suc, ◌<◌, ◌≡◌, List}
 use Rattle.std.proofs.Common.{not-suc-le-zero, le_refl, arith, subst, ⊎_elim}
 use Rattle.std.proofs.Math.Decide.{ℕ_discrete}
 use Rattle.std.proofs.Math.Path.{fun_ext}
-use Rattle.std.proofs.Math.Logic.{Dec·not-not}
+use Rattle.std.proofs.Math.Logic.Dec as Dec
 use Rattle.std.proofs.Math.Option.{discrete}
 use Rattle.lxtr_spec.specs.Image.{slot_count}
 use Rattle.lxtr_spec.specs.Refusals.{image_refusal}
@@ -51,10 +51,10 @@ module _ {b : List ℕ} {d : PairSet} (image : ImageOf b d) where
   not_unknown k = not_not_all (slot_count b) (KindIn image) some_kind (λ kinds. k (record { image = image; kinds = kinds }))
 
   pub image_passes : image_refusal b ≡ 0
-  image_passes = (Dec·not-not (ℕ_discrete (image_refusal b) 0)).0 (λ n. not_unknown (λ known. n ((accepted b).1 (complete known))))
+  image_passes = (Dec.not-not (ℕ_discrete (image_refusal b) 0)).0 (λ n. not_unknown (λ known. n ((accepted b).1 (complete known))))
 
   pub image_set : d ≡ value_of b
-  image_set = fun_ext (λ k. (Dec·not-not (discrete ℕ_discrete (d k) (value_of b k))).0 (λ n. not_unknown (λ known. n (set_is known k))))
+  image_set = fun_ext (λ k. (Dec.not-not (discrete ℕ_discrete (d k) (value_of b k))).0 (λ n. not_unknown (λ known. n (set_is known k))))
 
   -- so it is known what each slot is
   pub known_image : KnownImage b d

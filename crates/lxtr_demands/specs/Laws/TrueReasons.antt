@@ -4,7 +4,8 @@ use Rattle.std.specs.Prelude.{ℕ, zero, suc, ◌+◌, ◌≤◌, ◌<◌, ◌�
 use Rattle.std.proofs.Math.Decide.{dec_lt}
 use Rattle.std.proofs.Common.{add-one, arith, sym, ap, ◌∙◌, append-nil, length-append, length-take-le}
 use Rattle.std.proofs.Math.Path.{refl}
-use Rattle.std.proofs.Math.Logic.{inl, inr, ⊎_elim, Iff·rfl}
+use Rattle.std.proofs.Math.Logic.{inl, inr, ⊎_elim}
+use Rattle.std.proofs.Math.Logic.Iff as Iff
 use Rattle.std.proofs.Math.Option.{Option, some, none}
 use Rattle.std.proofs.Math.Seq.{take-length}
 use Rattle.lxtr_spec.specs.Labels.{max_labels, labels_of}
@@ -177,15 +178,15 @@ module _ {b : List ℕ} {d : PairSet} (image : ImageOf b d) (xs : List ℕ) wher
   )
 
   reason_in : (r : Reason) → TrueReason b xs r ↔ ReasonIn b d xs r
-  reason_in NoReason = Iff·rfl
-  reason_in IsFound = rw (lookup_set known) Iff·rfl
+  reason_in NoReason = Iff.rfl
+  reason_in IsFound = rw (lookup_set known) Iff.rfl
   reason_in (NotListed i) = (λ (s, out). ((stops_in i).0 s, out), λ (s, out). ((stops_in i).1 s, out))
   reason_in (NoStep i) = (λ (s, is). ((stops_in i).0 s, is), λ (s, is). ((stops_in i).1 s, is))
   reason_in NoKeyEnds = rw (lookup_set known) (
     λ (few, w, e). (no_end e ((walks_prefix xs).0 w), e),
     λ (o, e). let r = proper_front o in (r.0, (walks_prefix xs).1 r.1, e),
   )
-  reason_in TooLong = Iff·rfl
+  reason_in TooLong = Iff.rfl
 
 -- ---- the definitions meet the demand
 

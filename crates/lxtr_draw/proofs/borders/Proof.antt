@@ -4,8 +4,8 @@ use borrow.Author.Rules.{rules}
 use Rattle.lxtr_draw.proofs.borders.Statement.{statement}
 use Rattle.lxtr_draw.proofs.borders.Tie as tie
 
-pub borders-spec : {M : Type 1} → statement M
-borders-spec =
+pub borders_spec : {M : Type 1} → statement M
+borders_spec =
     tie.close
     (tie.spec
     (λ c κs. search rules)

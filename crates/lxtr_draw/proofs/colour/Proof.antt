@@ -4,9 +4,9 @@ use Rattle.lxtr_command_spec.specs.Drawings.{colour}
 use Rattle.lxtr_draw.proofs.colour.Statement.{statement}
 use Rattle.lxtr_draw.proofs.colour.Tie as tie
 
-pub colour-spec : {M : Type 1} → statement M
+pub colour_spec : {M : Type 1} → statement M
 unfolding colour
-colour-spec =
+colour_spec =
     tie.close
     (tie.spec
     (λ c. rw c.if1.true refl)

@@ -5,9 +5,9 @@ use Rattle.lxtr_draw.specs.DrawnLines.{entry_put}
 use Rattle.lxtr_draw.proofs.entry_line.Statement.{statement}
 use Rattle.lxtr_draw.proofs.entry_line.Tie as tie
 
-pub entry-line-spec : {M : Type 1} → statement M
+pub entry_line_spec : {M : Type 1} → statement M
 unfolding ascii_from ascii
-entry-line-spec =
+entry_line_spec =
     tie.close
     (tie.spec
     (λ c κs. search rules)

@@ -4,8 +4,8 @@ use Rattle.lxtr_draw.specs.DrawnLines.{entry_drawn}
 use Rattle.lxtr_draw.proofs.entry_text.Statement.{statement}
 use Rattle.lxtr_draw.proofs.entry_text.Tie as tie
 
-pub entry-text-spec : {M : Type 1} → statement M
-entry-text-spec =
+pub entry_text_spec : {M : Type 1} → statement M
+entry_text_spec =
     tie.close
     (tie.spec
     (λ c κs. search rules)

@@ -5,9 +5,9 @@ use Rattle.lxtr_command_spec.specs.Drawings.{is_drawn}
 use Rattle.lxtr_draw.proofs.is_drawn.Statement.{statement}
 use Rattle.lxtr_draw.proofs.is_drawn.Tie as tie
 
-pub is-drawn-spec : {M : Type 1} → statement M
+pub is_drawn_spec : {M : Type 1} → statement M
 unfolding both_zero is_drawn
-is-drawn-spec =
+is_drawn_spec =
     tie.close
     (tie.spec
     (λ c κs. search rules)

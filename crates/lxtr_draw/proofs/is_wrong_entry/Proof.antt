@@ -5,9 +5,9 @@ use Rattle.lxtr_draw.specs.DrawnLines.{entry_case}
 use Rattle.lxtr_draw.proofs.is_wrong_entry.Statement.{statement}
 use Rattle.lxtr_draw.proofs.is_wrong_entry.Tie as tie
 
-pub is-wrong-entry-spec : {M : Type 1} → statement M
+pub is_wrong_entry_spec : {M : Type 1} → statement M
 unfolding is_wrong_entry
-is-wrong-entry-spec =
+is_wrong_entry_spec =
     tie.close
     (tie.spec
     (λ c. search rules)

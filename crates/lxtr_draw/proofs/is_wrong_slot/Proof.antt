@@ -5,9 +5,9 @@ use Rattle.lxtr_draw.specs.DrawnLines.{slot_case}
 use Rattle.lxtr_draw.proofs.is_wrong_slot.Statement.{statement}
 use Rattle.lxtr_draw.proofs.is_wrong_slot.Tie as tie
 
-pub is-wrong-slot-spec : {M : Type 1} → statement M
+pub is_wrong_slot_spec : {M : Type 1} → statement M
 unfolding is_wrong_slot
-is-wrong-slot-spec =
+is_wrong_slot_spec =
     tie.close
     (tie.spec
     (λ c. search rules)

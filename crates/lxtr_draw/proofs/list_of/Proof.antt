@@ -12,8 +12,8 @@ invariant-loop image from j p₀ p = p ≤ list_of image j
 abbrev decreases-loop : tie.decreases-loop
 decreases-loop image from j p₀ p = list_of image j - p
 
-pub list-of-spec : {M : Type 1} → statement M
-list-of-spec =
+pub list_of_spec : {M : Type 1} → statement M
+list_of_spec =
     tie.close
     (tie.spec
     invariant-loop

@@ -5,9 +5,9 @@ use Rattle.lxtr_draw.specs.DrawnLines.{end_line, inner_line}
 use Rattle.lxtr_draw.proofs.slot_line.Statement.{statement}
 use Rattle.lxtr_draw.proofs.slot_line.Tie as tie
 
-pub slot-line-spec : {M : Type 1} → statement M
+pub slot_line_spec : {M : Type 1} → statement M
 unfolding ascii_from ascii
-slot-line-spec =
+slot_line_spec =
     tie.close
     (tie.spec
     (λ c κs. search rules)

@@ -4,8 +4,8 @@ use Rattle.lxtr_draw.specs.DrawnLines.{slot_left_out, slot_put}
 use Rattle.lxtr_draw.proofs.slot_text.Statement.{statement}
 use Rattle.lxtr_draw.proofs.slot_text.Tie as tie
 
-pub slot-text-spec : {M : Type 1} → statement M
-slot-text-spec =
+pub slot_text_spec : {M : Type 1} → statement M
+slot_text_spec =
     tie.close
     (tie.spec
     (λ c κs. search rules)

@@ -5,9 +5,9 @@ use Rattle.lxtr_draw.specs.DrawnLines.{end_step, listed_step, unlisted_step}
 use Rattle.lxtr_draw.proofs.step_line.Statement.{statement}
 use Rattle.lxtr_draw.proofs.step_line.Tie as tie
 
-pub step-line-spec : {M : Type 1} → statement M
+pub step_line_spec : {M : Type 1} → statement M
 unfolding ascii_from ascii
-step-line-spec =
+step_line_spec =
     tie.close
     (tie.spec
     (λ c κs. search rules)

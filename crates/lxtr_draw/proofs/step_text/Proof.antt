@@ -4,8 +4,8 @@ use Rattle.lxtr_draw.specs.DrawnLines.{no_parent, parent_outside, step_put}
 use Rattle.lxtr_draw.proofs.step_text.Statement.{statement}
 use Rattle.lxtr_draw.proofs.step_text.Tie as tie
 
-pub step-text-spec : {M : Type 1} → statement M
-step-text-spec =
+pub step_text_spec : {M : Type 1} → statement M
+step_text_spec =
     tie.close
     (tie.spec
     (λ c κs. search rules)

@@ -4,8 +4,8 @@ use Rattle.lxtr_entries.specs.Verdicts.{form_passed, verdict_refused, verdict_pa
 use Rattle.lxtr_entries.proofs.check_table.Statement.{statement}
 use Rattle.lxtr_entries.proofs.check_table.Tie as tie
 
-pub check-table-spec : {M : Type 1} → statement M
-check-table-spec =
+pub check_table_spec : {M : Type 1} → statement M
+check_table_spec =
     tie.close
     (tie.spec
     (λ c κs. search rules)

@@ -4,8 +4,8 @@ use Rattle.lxtr_entries.specs.Locating.{no_entries, part_head, part_within, entr
 use Rattle.lxtr_entries.proofs.entries.Statement.{statement}
 use Rattle.lxtr_entries.proofs.entries.Tie as tie
 
-pub entries-spec : {M : Type 1} → statement M
-entries-spec =
+pub entries_spec : {M : Type 1} → statement M
+entries_spec =
     tie.close
     (tie.spec
     (λ c κs. search rules)

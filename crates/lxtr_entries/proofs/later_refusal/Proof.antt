@@ -5,8 +5,8 @@ use Rattle.lxtr_entries.specs.Reading.{formed_by}
 use Rattle.lxtr_entries.proofs.later_refusal.Statement.{statement}
 use Rattle.lxtr_entries.proofs.later_refusal.Tie as tie
 
-pub later-refusal-spec : {M : Type 1} → statement M
-later-refusal-spec =
+pub later_refusal_spec : {M : Type 1} → statement M
+later_refusal_spec =
     tie.close
     (tie.spec
     (λ c κs. search rules)

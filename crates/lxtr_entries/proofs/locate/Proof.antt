@@ -5,8 +5,8 @@ use Rattle.lxtr_entries.specs.Locating.{query_refused, form_refused, no_value, v
 use Rattle.lxtr_entries.proofs.locate.Statement.{statement}
 use Rattle.lxtr_entries.proofs.locate.Tie as tie
 
-pub locate-spec : {M : Type 1} → statement M
-locate-spec =
+pub locate_spec : {M : Type 1} → statement M
+locate_spec =
     tie.close
     (tie.spec
     (λ c κs. search rules)

@@ -4,8 +4,8 @@ use Rattle.lxtr_entries.specs.Locating.{pair_falls, pair_past, pair_told}
 use Rattle.lxtr_entries.proofs.locate_pair.Statement.{statement}
 use Rattle.lxtr_entries.proofs.locate_pair.Tie as tie
 
-pub locate-pair-spec : {M : Type 1} → statement M
-locate-pair-spec =
+pub locate_pair_spec : {M : Type 1} → statement M
+locate_pair_spec =
     tie.close
     (tie.spec
     (λ c κs. search rules)

@@ -5,8 +5,8 @@ use Rattle.lxtr_entries.specs.Locating.{value_refused, first_there, next_there, 
 use Rattle.lxtr_entries.proofs.locate_value.Statement.{statement}
 use Rattle.lxtr_entries.proofs.locate_value.Tie as tie
 
-pub locate-value-spec : {M : Type 1} → statement M
-locate-value-spec =
+pub locate_value_spec : {M : Type 1} → statement M
+locate_value_spec =
     tie.close
     (tie.spec
     (λ c κs. search has_head)

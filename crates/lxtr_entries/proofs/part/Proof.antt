@@ -4,8 +4,8 @@ use Rattle.lxtr_entries.specs.Locating.{part_bytes}
 use Rattle.lxtr_entries.proofs.part.Statement.{statement}
 use Rattle.lxtr_entries.proofs.part.Tie as tie
 
-pub part-spec : {M : Type 1} → statement M
-part-spec =
+pub part_spec : {M : Type 1} → statement M
+part_spec =
     tie.close
     (tie.spec
     (λ c κs. search rules)

@@ -4,8 +4,8 @@ use Rattle.lxtr_entries.specs.Verdicts.{image_refused, later_told}
 use Rattle.lxtr_entries.proofs.table_refusal.Statement.{statement}
 use Rattle.lxtr_entries.proofs.table_refusal.Tie as tie
 
-pub table-refusal-spec : {M : Type 1} → statement M
-table-refusal-spec =
+pub table_refusal_spec : {M : Type 1} → statement M
+table_refusal_spec =
     tie.close
     (tie.spec
     (λ c κs. search rules)

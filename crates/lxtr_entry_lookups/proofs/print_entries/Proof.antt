@@ -12,8 +12,8 @@ invariant-loop entries first at₀ at = Unit {0}
 abbrev decreases-loop : tie.decreases-loop
 decreases-loop entries first at₀ at = length entries - at
 
-pub print-entries-spec : {M : Type 1} → statement M
-print-entries-spec =
+pub print_entries_spec : {M : Type 1} → statement M
+print_entries_spec =
     tie.close
     (tie.spec
     invariant-loop

@@ -4,8 +4,8 @@ use Rattle.lxtr_fault.specs.FaultTests.{fault_nowhere, fault_label, fault_slot, 
 use Rattle.lxtr_fault.proofs.fault.Statement.{statement}
 use Rattle.lxtr_fault.proofs.fault.Tie as tie
 
-pub fault-spec : {M : Type 1} → statement M
-fault-spec =
+pub fault_spec : {M : Type 1} → statement M
+fault_spec =
     tie.close
     (tie.spec
     (λ c κs. search rules)

@@ -4,8 +4,8 @@ use Rattle.lxtr_header.specs.Bytes.{magic_number}
 use Rattle.lxtr_header.proofs.four_differ.Statement.{statement}
 use Rattle.lxtr_header.proofs.four_differ.Tie as tie
 
-pub four-differ-spec : {M : Type 1} → statement M
-four-differ-spec =
+pub four_differ_spec : {M : Type 1} → statement M
+four_differ_spec =
     tie.close
     (tie.spec
     (λ c κs. search rules)

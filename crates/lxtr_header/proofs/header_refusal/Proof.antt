@@ -8,9 +8,9 @@ use Rattle.lxtr_laws.specs.Passed.{sized_by}
 use Rattle.lxtr_header.proofs.header_refusal.Statement.{statement}
 use Rattle.lxtr_header.proofs.header_refusal.Tie as tie
 
-pub header-refusal-spec : {M : Type 1} → statement M
+pub header_refusal_spec : {M : Type 1} → statement M
 unfolding header_refusal too_short
-header-refusal-spec =
+header_refusal_spec =
     tie.close
     (tie.spec
     (λ c. search (refused, lt-ltb))

@@ -4,9 +4,9 @@ use Rattle.lxtr_spec.specs.Refusals.{length_wrong}
 use Rattle.lxtr_header.proofs.length_wrong.Statement.{statement}
 use Rattle.lxtr_header.proofs.length_wrong.Tie as tie
 
-pub length-wrong-spec : {M : Type 1} → statement M
+pub length_wrong_spec : {M : Type 1} → statement M
 unfolding length_wrong
-length-wrong-spec =
+length_wrong_spec =
     tie.close
     (tie.spec
     (λ c κs. search rules)

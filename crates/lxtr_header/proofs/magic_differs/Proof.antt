@@ -5,9 +5,9 @@ use Rattle.lxtr_spec.specs.Refusals.{byte_differs, magic_differs}
 use Rattle.lxtr_header.proofs.magic_differs.Statement.{statement}
 use Rattle.lxtr_header.proofs.magic_differs.Tie as tie
 
-pub magic-differs-spec : {M : Type 1} → statement M
+pub magic_differs_spec : {M : Type 1} → statement M
 unfolding magic_differs byte_differs any_below
-magic-differs-spec =
+magic_differs_spec =
     tie.close
     (tie.spec
     (λ c. search rules)

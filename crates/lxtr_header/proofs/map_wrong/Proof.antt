@@ -5,9 +5,9 @@ use Rattle.lxtr_spec.specs.Refusals.{map_wrong}
 use Rattle.lxtr_header.proofs.map_wrong.Statement.{statement}
 use Rattle.lxtr_header.proofs.map_wrong.Tie as tie
 
-pub map-wrong-spec : {M : Type 1} → statement M
+pub map_wrong_spec : {M : Type 1} → statement M
 unfolding map_wrong
-map-wrong-spec =
+map_wrong_spec =
     tie.close
     (tie.spec
     (λ c κs. search rules)

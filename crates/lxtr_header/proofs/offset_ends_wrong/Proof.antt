@@ -4,9 +4,9 @@ use Rattle.lxtr_spec.specs.Refusals.{offset_ends_wrong}
 use Rattle.lxtr_header.proofs.offset_ends_wrong.Statement.{statement}
 use Rattle.lxtr_header.proofs.offset_ends_wrong.Tie as tie
 
-pub offset-ends-wrong-spec : {M : Type 1} → statement M
+pub offset_ends_wrong_spec : {M : Type 1} → statement M
 unfolding offset_ends_wrong
-offset-ends-wrong-spec =
+offset_ends_wrong_spec =
     tie.close
     (tie.spec
     (λ c κs. search rules)

@@ -6,8 +6,8 @@ use Rattle.lxtr_laws.specs.Passed.{whole_by}
 use Rattle.lxtr_header.proofs.parts_refusal.Statement.{statement}
 use Rattle.lxtr_header.proofs.parts_refusal.Tie as tie
 
-pub parts-refusal-spec : {M : Type 1} → statement M
-parts-refusal-spec =
+pub parts_refusal_spec : {M : Type 1} → statement M
+parts_refusal_spec =
     tie.close
     (tie.spec
     (λ c κs. search rules)

@@ -4,8 +4,8 @@ use Rattle.lxtr_header.specs.Bytes.{reserved_numbers}
 use Rattle.lxtr_header.proofs.reserved_set.Statement.{statement}
 use Rattle.lxtr_header.proofs.reserved_set.Tie as tie
 
-pub reserved-set-spec : {M : Type 1} → statement M
-reserved-set-spec =
+pub reserved_set_spec : {M : Type 1} → statement M
+reserved_set_spec =
     tie.close
     (tie.spec
     (λ c κs. search rules)

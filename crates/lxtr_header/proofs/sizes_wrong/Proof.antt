@@ -5,9 +5,9 @@ use Rattle.lxtr_spec.specs.Refusals.{sizes_wrong}
 use Rattle.lxtr_header.proofs.sizes_wrong.Statement.{statement}
 use Rattle.lxtr_header.proofs.sizes_wrong.Tie as tie
 
-pub sizes-wrong-spec : {M : Type 1} → statement M
+pub sizes_wrong_spec : {M : Type 1} → statement M
 unfolding sizes_wrong
-sizes-wrong-spec =
+sizes_wrong_spec =
     tie.close
     (tie.spec
     (λ c κs. search rules)

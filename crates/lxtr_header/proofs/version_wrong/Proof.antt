@@ -5,9 +5,9 @@ use Rattle.lxtr_spec.specs.Refusals.{version_wrong}
 use Rattle.lxtr_header.proofs.version_wrong.Statement.{statement}
 use Rattle.lxtr_header.proofs.version_wrong.Tie as tie
 
-pub version-wrong-spec : {M : Type 1} → statement M
+pub version_wrong_spec : {M : Type 1} → statement M
 unfolding version_wrong version
-version-wrong-spec =
+version_wrong_spec =
     tie.close
     (tie.spec
     (λ c. search rules)

@@ -5,9 +5,9 @@ use Rattle.lxtr_highest.specs.Bounds.{bound_end, bound_other}
 use Rattle.lxtr_highest.proofs.end_bound.Statement.{statement}
 use Rattle.lxtr_highest.proofs.end_bound.Tie as tie
 
-pub end-bound-spec : {M : Type 1} → statement M
+pub end_bound_spec : {M : Type 1} → statement M
 unfolding value_number
-end-bound-spec =
+end_bound_spec =
     tie.close
     (tie.spec
     (λ c κs. search rules)

@@ -5,8 +5,8 @@ use Rattle.lxtr_highest.specs.Bounds.{highest_refused, highest_passed}
 use Rattle.lxtr_highest.proofs.highest.Statement.{statement}
 use Rattle.lxtr_highest.proofs.highest.Tie as tie
 
-pub highest-spec : {M : Type 1} → statement M
-highest-spec =
+pub highest_spec : {M : Type 1} → statement M
+highest_spec =
     tie.close
     (tie.spec
     (λ c κs. search rules)

@@ -13,8 +13,8 @@ invariant-loop image slots bound₀ s₀ bound s = (slots ≡ slot_count image) 
 abbrev decreases-loop : tie.decreases-loop
 decreases-loop image slots bound₀ s₀ bound s = slots - s
 
-pub highest-value-spec : {M : Type 1} → statement M
-highest-value-spec =
+pub highest_value_spec : {M : Type 1} → statement M
+highest_value_spec =
     tie.close
     (tie.spec
     invariant-loop

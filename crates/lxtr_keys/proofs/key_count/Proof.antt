@@ -4,9 +4,9 @@ use Rattle.lxtr_spec.specs.KeyLists.{key_count}
 use Rattle.lxtr_keys.proofs.key_count.Statement.{statement}
 use Rattle.lxtr_keys.proofs.key_count.Tie as tie
 
-pub key-count-spec : {M : Type 1} → statement M
+pub key_count_spec : {M : Type 1} → statement M
 unfolding key_count
-key-count-spec =
+key_count_spec =
     tie.close
     (tie.spec
     (λ c κs. search rules)

@@ -4,9 +4,9 @@ use Rattle.lxtr_spec.specs.KeyLists.{key_label}
 use Rattle.lxtr_keys.proofs.key_label.Statement.{statement}
 use Rattle.lxtr_keys.proofs.key_label.Tie as tie
 
-pub key-label-spec : {M : Type 1} → statement M
+pub key_label_spec : {M : Type 1} → statement M
 unfolding key_label
-key-label-spec =
+key_label_spec =
     tie.close
     (tie.spec
     (λ c. search rules)

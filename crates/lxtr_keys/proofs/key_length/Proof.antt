@@ -6,9 +6,9 @@ use Rattle.lxtr_spec.specs.KeyLists.{key_length}
 use Rattle.lxtr_keys.proofs.key_length.Statement.{statement}
 use Rattle.lxtr_keys.proofs.key_length.Tie as tie
 
-pub key-length-spec : {M : Type 1} → statement M
+pub key_length_spec : {M : Type 1} → statement M
 unfolding key_length
-key-length-spec =
+key_length_spec =
     tie.close
     (tie.spec
     (λ c. search rules)

@@ -4,8 +4,8 @@ use Rattle.lxtr_keys.specs.KeyRefusals.{list_short, list_version_lem, list_many,
 use Rattle.lxtr_keys.proofs.list_refusal.Statement.{statement}
 use Rattle.lxtr_keys.proofs.list_refusal.Tie as tie
 
-pub list-refusal-spec : {M : Type 1} → statement M
-list-refusal-spec =
+pub list_refusal_spec : {M : Type 1} → statement M
+list_refusal_spec =
     tie.close
     (tie.spec
     (λ c. search list_short)

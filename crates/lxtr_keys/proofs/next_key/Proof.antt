@@ -5,9 +5,9 @@ use Rattle.lxtr_spec.specs.KeyLists.{key_length, next_key}
 use Rattle.lxtr_keys.proofs.next_key.Statement.{statement}
 use Rattle.lxtr_keys.proofs.next_key.Tie as tie
 
-pub next-key-spec : {M : Type 1} → statement M
+pub next_key_spec : {M : Type 1} → statement M
 unfolding key_length next_key
-next-key-spec =
+next_key_spec =
     tie.close
     (tie.spec
     (λ c. search rules)

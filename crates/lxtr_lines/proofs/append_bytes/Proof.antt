@@ -14,8 +14,8 @@ invariant-loop line₀ at bytes end₀ i₀ line end i = PiecesSoFar digit_piece
 abbrev decreases-loop : tie.decreases-loop
 decreases-loop line₀ at bytes end₀ i₀ line end i = length bytes - i
 
-pub append-bytes-spec : {M : Type 1} → statement M
-append-bytes-spec =
+pub append_bytes_spec : {M : Type 1} → statement M
+append_bytes_spec =
     tie.close
     (tie.spec
     invariant-loop

@@ -4,8 +4,8 @@ use Rattle.lxtr_lines.specs.KeyLines.{completion_put}
 use Rattle.lxtr_lines.proofs.append_pair.Statement.{statement}
 use Rattle.lxtr_lines.proofs.append_pair.Tie as tie
 
-pub append-pair-spec : {M : Type 1} → statement M
-append-pair-spec =
+pub append_pair_spec : {M : Type 1} → statement M
+append_pair_spec =
     tie.close
     (tie.spec
     (λ c κs. search rules)

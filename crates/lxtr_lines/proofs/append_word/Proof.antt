@@ -14,8 +14,8 @@ invariant-loop line₀ at word end₀ i₀ line end i = PiecesSoFar byte_pieces 
 abbrev decreases-loop : tie.decreases-loop
 decreases-loop line₀ at word end₀ i₀ line end i = length word - i
 
-pub append-word-spec : {M : Type 1} → statement M
-append-word-spec =
+pub append_word_spec : {M : Type 1} → statement M
+append_word_spec =
     tie.close
     (tie.spec
     invariant-loop

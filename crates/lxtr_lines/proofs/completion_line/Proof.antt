@@ -4,8 +4,8 @@ use Rattle.lxtr_lines.specs.KeyLines.{completion_line_lem}
 use Rattle.lxtr_lines.proofs.completion_line.Statement.{statement}
 use Rattle.lxtr_lines.proofs.completion_line.Tie as tie
 
-pub completion-line-spec : {M : Type 1} → statement M
-completion-line-spec =
+pub completion_line_spec : {M : Type 1} → statement M
+completion_line_spec =
     tie.close
     (tie.spec
     (λ c κs. search rules)

@@ -4,8 +4,8 @@ use Rattle.lxtr_lines.specs.KeyLines.{entry_put}
 use Rattle.lxtr_lines.proofs.entry_line.Statement.{statement}
 use Rattle.lxtr_lines.proofs.entry_line.Tie as tie
 
-pub entry-line-spec : {M : Type 1} → statement M
-entry-line-spec =
+pub entry_line_spec : {M : Type 1} → statement M
+entry_line_spec =
     tie.close
     (tie.spec
     (λ c κs. search rules)

@@ -7,9 +7,9 @@ use Rattle.lxtr_lines.specs.Records.{starts_past, key_long, ends_within}
 use Rattle.lxtr_lines.proofs.is_whole_record.Statement.{statement}
 use Rattle.lxtr_lines.proofs.is_whole_record.Tie as tie
 
-pub is-whole-record-spec : {M : Type 1} → statement M
+pub is_whole_record_spec : {M : Type 1} → statement M
 unfolding max_labels next_key
-is-whole-record-spec =
+is_whole_record_spec =
     tie.close
     (tie.spec
     (λ c. search starts_past)

@@ -4,8 +4,8 @@ use Rattle.lxtr_lines.specs.KeyLines.{words_put}
 use Rattle.lxtr_lines.proofs.joined.Statement.{statement}
 use Rattle.lxtr_lines.proofs.joined.Tie as tie
 
-pub joined-spec : {M : Type 1} → statement M
-joined-spec =
+pub joined_spec : {M : Type 1} → statement M
+joined_spec =
     tie.close
     (tie.spec
     (λ c κs. search rules)

@@ -4,8 +4,8 @@ use Rattle.lxtr_lines.specs.KeyLines.{number_put}
 use Rattle.lxtr_lines.proofs.number_line.Statement.{statement}
 use Rattle.lxtr_lines.proofs.number_line.Tie as tie
 
-pub number-line-spec : {M : Type 1} → statement M
-number-line-spec =
+pub number_line_spec : {M : Type 1} → statement M
+number_line_spec =
     tie.close
     (tie.spec
     (λ c κs. search rules)

@@ -4,8 +4,8 @@ use Rattle.lxtr_lines.specs.KeyLines.{prefix_put}
 use Rattle.lxtr_lines.proofs.prefix_line.Statement.{statement}
 use Rattle.lxtr_lines.proofs.prefix_line.Tie as tie
 
-pub prefix-line-spec : {M : Type 1} → statement M
-prefix-line-spec =
+pub prefix_line_spec : {M : Type 1} → statement M
+prefix_line_spec =
     tie.close
     (tie.spec
     (λ c κs. search rules)

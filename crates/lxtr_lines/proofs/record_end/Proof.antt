@@ -6,9 +6,9 @@ use Rattle.lxtr_lines.specs.Records.{whole_record, record_end}
 use Rattle.lxtr_lines.proofs.record_end.Statement.{statement}
 use Rattle.lxtr_lines.proofs.record_end.Tie as tie
 
-pub record-end-spec : {M : Type 1} → statement M
+pub record_end_spec : {M : Type 1} → statement M
 unfolding record_end
-record-end-spec =
+record_end_spec =
     tie.close
     (tie.spec
     (λ c κs. (whole_record _ _ c.before.requires).key.starts)

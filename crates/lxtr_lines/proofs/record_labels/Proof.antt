@@ -4,8 +4,8 @@ use Rattle.lxtr_lines.specs.Records.{record_starts, labels_start, labels_inside,
 use Rattle.lxtr_lines.proofs.record_labels.Statement.{statement}
 use Rattle.lxtr_lines.proofs.record_labels.Tie as tie
 
-pub record-labels-spec : {M : Type 1} → statement M
-record-labels-spec =
+pub record_labels_spec : {M : Type 1} → statement M
+record_labels_spec =
     tie.close
     (tie.spec
     (λ c. omega (arith, record_starts _ _ c.before.requires))

@@ -3,8 +3,8 @@ use Rattle.lxtr_lines.specs.Records.{record_starts, value_place, value_read}
 use Rattle.lxtr_lines.proofs.record_value.Statement.{statement}
 use Rattle.lxtr_lines.proofs.record_value.Tie as tie
 
-pub record-value-spec : {M : Type 1} → statement M
-record-value-spec =
+pub record_value_spec : {M : Type 1} → statement M
+record_value_spec =
     tie.close
     (tie.spec
     (λ c κs. search record_starts)

@@ -6,8 +6,8 @@ use lib.Seq.{length-take-le}
 use Rattle.lxtr_lookups.proofs.print_prefix.Statement.{statement}
 use Rattle.lxtr_lookups.proofs.print_prefix.Tie as tie
 
-pub print-prefix-spec : {M : Type 1} → statement M
-print-prefix-spec =
+pub print_prefix_spec : {M : Type 1} → statement M
+print_prefix_spec =
     tie.close
     (tie.spec
     (λ c. search rules)

@@ -11,8 +11,8 @@ invariant-loop query count lengths values i₀ i = Unit {0}
 abbrev decreases-loop : tie.decreases-loop
 decreases-loop query count lengths values i₀ i = count - i
 
-pub print-prefixes-spec : {M : Type 1} → statement M
-print-prefixes-spec =
+pub print_prefixes_spec : {M : Type 1} → statement M
+print_prefixes_spec =
     tie.close
     (tie.spec
     invariant-loop

@@ -9,8 +9,8 @@ invariant-loop texts place at₀ left₀ at left = Unit {0}
 abbrev decreases-loop : tie.decreases-loop
 decreases-loop texts place at₀ left₀ at left = left
 
-pub text-start-spec : {M : Type 1} → statement M
-text-start-spec =
+pub text_start_spec : {M : Type 1} → statement M
+text_start_spec =
     tie.close
     (tie.spec
     invariant-loop

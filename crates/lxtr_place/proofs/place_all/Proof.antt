@@ -5,9 +5,9 @@ use Rattle.lxtr_place.specs.AllKeys.{starts_enough, all_called, all_placed}
 use Rattle.lxtr_place.proofs.place_all.Statement.{statement}
 use Rattle.lxtr_place.proofs.place_all.Tie as tie
 
-pub place-all-spec : {M : Type 1} → statement M
+pub place_all_spec : {M : Type 1} → statement M
 unfolding max_labels
-place-all-spec =
+place_all_spec =
     tie.close
     (tie.spec
     (λ c κs. search rules)

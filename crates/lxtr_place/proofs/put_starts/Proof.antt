@@ -11,8 +11,8 @@ invariant-loop keys starts₀ count at₀ i₀ starts at i = Starting keys start
 abbrev decreases-loop : tie.decreases-loop
 decreases-loop keys starts₀ count at₀ i₀ starts at i = count - i
 
-pub put-starts-spec : {M : Type 1} → statement M
-put-starts-spec =
+pub put_starts_spec : {M : Type 1} → statement M
+put_starts_spec =
     tie.close
     (tie.spec
     invariant-loop

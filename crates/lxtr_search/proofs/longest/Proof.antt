@@ -5,8 +5,8 @@ use Rattle.lxtr_laws.specs.SearchReturns.{search_passed, longest_refused, longes
 use Rattle.lxtr_search.proofs.longest.Statement.{statement}
 use Rattle.lxtr_search.proofs.longest.Tie as tie
 
-pub longest-spec : {M : Type 1} → statement M
-longest-spec =
+pub longest_spec : {M : Type 1} → statement M
+longest_spec =
     tie.close
     (tie.spec
     (λ c κs. search rules)

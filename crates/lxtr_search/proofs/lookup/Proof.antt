@@ -5,8 +5,8 @@ use Rattle.lxtr_laws.specs.SearchReturns.{search_passed, lookup_refused, lookup_
 use Rattle.lxtr_search.proofs.lookup.Statement.{statement}
 use Rattle.lxtr_search.proofs.lookup.Tie as tie
 
-pub lookup-spec : {M : Type 1} → statement M
-lookup-spec =
+pub lookup_spec : {M : Type 1} → statement M
+lookup_spec =
     tie.close
     (tie.spec
     (λ c κs. search rules)

@@ -12,8 +12,8 @@ invariant-loop labels size at₀ at = Unit {0}
 abbrev decreases-loop : tie.decreases-loop
 decreases-loop labels size at₀ at = length labels - at
 
-pub print-all-numbers-spec : {M : Type 1} → statement M
-print-all-numbers-spec =
+pub print_all_numbers_spec : {M : Type 1} → statement M
+print_all_numbers_spec =
     tie.close
     (tie.spec
     invariant-loop

@@ -12,8 +12,8 @@ invariant-loop labels at₀ at = Unit {0}
 abbrev decreases-loop : tie.decreases-loop
 decreases-loop labels at₀ at = length labels - at
 
-pub print-all-text-spec : {M : Type 1} → statement M
-print-all-text-spec =
+pub print_all_text_spec : {M : Type 1} → statement M
+print_all_text_spec =
     tie.close
     (tie.spec
     invariant-loop

@@ -13,9 +13,9 @@ invariant-loop bytes room₀ i₀ room i = Unit {0}
 abbrev decreases-loop : tie.decreases-loop
 decreases-loop bytes room₀ i₀ room i = max_kept - i
 
-pub put-labels-spec : {M : Type 1} → statement M
+pub put_labels_spec : {M : Type 1} → statement M
 unfolding max_labels max_kept
-put-labels-spec =
+put_labels_spec =
     tie.close
     (tie.spec
     invariant-loop

@@ -13,8 +13,8 @@ invariant-loop text at₀ count₀ at count = CountSoFar text at count
 abbrev decreases-loop : tie.decreases-loop
 decreases-loop text at₀ count₀ at count = length text - at
 
-pub count-labels-spec : {M : Type 1} → statement M
-count-labels-spec =
+pub count_labels_spec : {M : Type 1} → statement M
+count_labels_spec =
     tie.close
     (tie.spec
     invariant-loop

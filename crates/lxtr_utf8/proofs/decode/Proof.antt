@@ -4,8 +4,8 @@ use Rattle.lxtr_utf8.specs.Decoding.{decode_problem, decode_short, decode_text, 
 use Rattle.lxtr_utf8.proofs.decode.Statement.{statement}
 use Rattle.lxtr_utf8.proofs.decode.Tie as tie
 
-pub decode-spec : {M : Type 1} → statement M
-decode-spec =
+pub decode_spec : {M : Type 1} → statement M
+decode_spec =
     tie.close
     (tie.spec
     (λ c κs. search rules)

@@ -5,8 +5,8 @@ use Rattle.lxtr_utf8.specs.Marks.{too_short_lem, marked, unmarked}
 use Rattle.lxtr_utf8.proofs.mark_length.Statement.{statement}
 use Rattle.lxtr_utf8.proofs.mark_length.Tie as tie
 
-pub mark-length-spec : {M : Type 1} → statement M
-mark-length-spec =
+pub mark_length_spec : {M : Type 1} → statement M
+mark_length_spec =
     tie.close
     (tie.spec
     (λ c. (search too_short_lem, omega arith))

@@ -22,8 +22,8 @@ read c = c.before.before.before.before.before
 abbrev loop : tie.After-first-character invariant-loop decreases-loop → tie.At-loop invariant-loop decreases-loop
 loop c = c.before.before.before
 
-pub put-labels-spec : {M : Type 1} → statement M
-put-labels-spec =
+pub put_labels_spec : {M : Type 1} → statement M
+put_labels_spec =
     tie.close
     (tie.spec
     invariant-loop

@@ -4,8 +4,8 @@ use Rattle.lxtr_laws.specs.Stepping.{longer_with_leaf, longer_without_leaf}
 use Rattle.lxtr_walk.proofs.longer_at.Statement.{statement}
 use Rattle.lxtr_walk.proofs.longer_at.Tie as tie
 
-pub longer-at-spec : {M : Type 1} → statement M
-longer-at-spec =
+pub longer_at_spec : {M : Type 1} → statement M
+longer_at_spec =
     tie.close
     (tie.spec
     (λ c κs. search rules)

@@ -4,8 +4,8 @@ use Rattle.lxtr_laws.specs.SearchReturns.{header_stands, query_refused, search_a
 use Rattle.lxtr_walk.proofs.search_refusal.Statement.{statement}
 use Rattle.lxtr_walk.proofs.search_refusal.Tie as tie
 
-pub search-refusal-spec : {M : Type 1} → statement M
-search-refusal-spec =
+pub search_refusal_spec : {M : Type 1} → statement M
+search_refusal_spec =
     tie.close
     (tie.spec
     (λ c κs. search rules)

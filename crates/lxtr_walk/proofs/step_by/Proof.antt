@@ -4,8 +4,8 @@ use Rattle.lxtr_laws.specs.Stepping.{step_unlisted, step_listed}
 use Rattle.lxtr_walk.proofs.step_by.Statement.{statement}
 use Rattle.lxtr_walk.proofs.step_by.Tie as tie
 
-pub step-by-spec : {M : Type 1} → statement M
-step-by-spec =
+pub step_by_spec : {M : Type 1} → statement M
+step_by_spec =
     tie.close
     (tie.spec
     (λ c κs. search rules)

@@ -4,8 +4,8 @@ use Rattle.lxtr_laws.specs.Stepping.{step_below, value_no_flag, value_no_end, va
 use Rattle.lxtr_walk.proofs.value_at.Statement.{statement}
 use Rattle.lxtr_walk.proofs.value_at.Tie as tie
 
-pub value-at-spec : {M : Type 1} → statement M
-value-at-spec =
+pub value_at_spec : {M : Type 1} → statement M
+value_at_spec =
     tie.close
     (tie.spec
     (λ c κs. search rules)

@@ -14,8 +14,8 @@ invariant-loop image query count n₀ i₀ n i = (count ≡ length (labels_of qu
 abbrev decreases-loop : tie.decreases-loop
 decreases-loop image query count n₀ i₀ n i = count - i
 
-pub walk-spec : {M : Type 1} → statement M
-walk-spec =
+pub walk_spec : {M : Type 1} → statement M
+walk_spec =
     tie.close
     (tie.spec
     invariant-loop

@@ -5,9 +5,9 @@ use Rattle.lxtr_laws.specs.Walking.{walk_too_long, walk_allowed}
 use Rattle.lxtr_walk.proofs.walk_within.Statement.{statement}
 use Rattle.lxtr_walk.proofs.walk_within.Tie as tie
 
-pub walk-within-spec : {M : Type 1} → statement M
+pub walk_within_spec : {M : Type 1} → statement M
 unfolding max_labels
-walk-within-spec =
+walk_within_spec =
     tie.close
     (tie.spec
     (λ c κs. search rules)

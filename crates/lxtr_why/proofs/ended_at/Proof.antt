@@ -4,8 +4,8 @@ use Rattle.lxtr_why.specs.ReasonReturns.{ended_found, ended_without}
 use Rattle.lxtr_why.proofs.ended_at.Statement.{statement}
 use Rattle.lxtr_why.proofs.ended_at.Tie as tie
 
-pub ended-at-spec : {M : Type 1} → statement M
-ended-at-spec =
+pub ended_at_spec : {M : Type 1} → statement M
+ended_at_spec =
     tie.close
     (tie.spec
     (λ c κs. search rules)

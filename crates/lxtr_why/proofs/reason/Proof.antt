@@ -16,9 +16,9 @@ invariant-loop image query count n₀ i₀ n i = (count ≡ length (labels_of qu
 abbrev decreases-loop : tie.decreases-loop
 decreases-loop image query count n₀ i₀ n i = count - i
 
-pub reason-spec : {M : Type 1} → statement M
+pub reason_spec : {M : Type 1} → statement M
 unfolding max_labels
-reason-spec =
+reason_spec =
     tie.close
     (tie.spec
     invariant-loop

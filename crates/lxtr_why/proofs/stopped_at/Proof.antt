@@ -4,8 +4,8 @@ use Rattle.lxtr_why.specs.ReasonReturns.{stopped_unlisted, stopped_listed}
 use Rattle.lxtr_why.proofs.stopped_at.Statement.{statement}
 use Rattle.lxtr_why.proofs.stopped_at.Tie as tie
 
-pub stopped-at-spec : {M : Type 1} → statement M
-stopped-at-spec =
+pub stopped_at_spec : {M : Type 1} → statement M
+stopped_at_spec =
     tie.close
     (tie.spec
     (λ c κs. search rules)

@@ -5,8 +5,8 @@ use Rattle.lxtr_why.specs.ReasonReturns.{why_refused, why_passed}
 use Rattle.lxtr_why.proofs.why.Statement.{statement}
 use Rattle.lxtr_why.proofs.why.Tie as tie
 
-pub why-spec : {M : Type 1} → statement M
-why-spec =
+pub why_spec : {M : Type 1} → statement M
+why_spec =
     tie.close
     (tie.spec
     (λ c κs. search rules)

@@ -4,8 +4,8 @@ use Rattle.lxtr_words.specs.ListReturns.{problem_found, lines_right, lines_liste
 use Rattle.lxtr_words.proofs.key_list.Statement.{statement}
 use Rattle.lxtr_words.proofs.key_list.Tie as tie
 
-pub key-list-spec : {M : Type 1} → statement M
-key-list-spec =
+pub key_list_spec : {M : Type 1} → statement M
+key_list_spec =
     tie.close
     (tie.spec
     (λ c κs. search rules)

@@ -6,8 +6,8 @@ use Rattle.lxtr_words.specs.ListReturns.{words_many, words_few, words_listed}
 use Rattle.lxtr_words.proofs.list_lines.Statement.{statement}
 use Rattle.lxtr_words.proofs.list_lines.Tie as tie
 
-pub list-lines-spec : {M : Type 1} → statement M
-list-lines-spec =
+pub list_lines_spec : {M : Type 1} → statement M
+list_lines_spec =
     tie.close
     (tie.spec
     (λ c. search rules)

@@ -4,8 +4,8 @@ use Rattle.lxtr_words.specs.ListReturns.{list_short, list_room, list_done}
 use Rattle.lxtr_words.proofs.list_words.Statement.{statement}
 use Rattle.lxtr_words.proofs.list_words.Tie as tie
 
-pub list-words-spec : {M : Type 1} → statement M
-list-words-spec =
+pub list_words_spec : {M : Type 1} → statement M
+list_words_spec =
     tie.close
     (tie.spec
     (λ c κs. search rules)

@@ -4,8 +4,8 @@ use Rattle.lxtr_write.specs.SectionWriting.{place_fits, place_scaled, place_insi
 use Rattle.lxtr_write.proofs.listed_label.Statement.{statement}
 use Rattle.lxtr_write.proofs.listed_label.Tie as tie
 
-pub listed-label-spec : {M : Type 1} → statement M
-listed-label-spec =
+pub listed_label_spec : {M : Type 1} → statement M
+listed_label_spec =
     tie.close
     (tie.spec
     (λ c. search rules)

@@ -6,8 +6,8 @@ use Rattle.lxtr_write.specs.WriteOutcomes.{image_short, image_fits}
 use Rattle.lxtr_write.proofs.put_fitting.Statement.{statement}
 use Rattle.lxtr_write.proofs.put_fitting.Tie as tie
 
-pub put-fitting-spec : {M : Type 1} → statement M
-put-fitting-spec =
+pub put_fitting_spec : {M : Type 1} → statement M
+put_fitting_spec =
     tie.close
     (tie.spec
     (λ c. search rules)

@@ -4,8 +4,8 @@ use Rattle.lxtr_write.specs.SectionWriting.{header_put}
 use Rattle.lxtr_write.proofs.put_header.Statement.{statement}
 use Rattle.lxtr_write.proofs.put_header.Tie as tie
 
-pub put-header-spec : {M : Type 1} → statement M
-put-header-spec =
+pub put_header_spec : {M : Type 1} → statement M
+put_header_spec =
     tie.close
     (tie.spec
     (λ c κs. search rules)

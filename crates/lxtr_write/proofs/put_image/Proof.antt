@@ -5,8 +5,8 @@ use Rattle.lxtr_write.specs.WriteOutcomes.{image_answered}
 use Rattle.lxtr_write.proofs.put_image.Statement.{statement}
 use Rattle.lxtr_write.proofs.put_image.Tie as tie
 
-pub put-image-spec : {M : Type 1} → statement M
-put-image-spec =
+pub put_image_spec : {M : Type 1} → statement M
+put_image_spec =
     tie.close
     (tie.spec
     (λ c κs. search rules)

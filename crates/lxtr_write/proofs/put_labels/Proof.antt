@@ -17,8 +17,8 @@ invariant-loop out₀ at labels order j₀ out j = (j ≤ length order) × (leng
 abbrev decreases-loop : tie.decreases-loop
 decreases-loop out₀ at labels order j₀ out j = length order - j
 
-pub put-labels-spec : {M : Type 1} → statement M
-put-labels-spec =
+pub put_labels_spec : {M : Type 1} → statement M
+put_labels_spec =
     tie.close
     (tie.spec
     invariant-loop

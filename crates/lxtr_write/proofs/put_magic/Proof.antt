@@ -7,9 +7,9 @@ use Rattle.lxtr_laws.specs.Overlays.{four_put}
 use Rattle.lxtr_write.proofs.put_magic.Statement.{statement}
 use Rattle.lxtr_write.proofs.put_magic.Tie as tie
 
-pub put-magic-spec : {M : Type 1} → statement M
+pub put_magic_spec : {M : Type 1} → statement M
 unfolding magic
-put-magic-spec =
+put_magic_spec =
     tie.close
     (tie.spec
     (λ c. search rules)

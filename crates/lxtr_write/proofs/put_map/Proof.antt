@@ -4,8 +4,8 @@ use Rattle.lxtr_write.specs.SectionWriting.{map_put}
 use Rattle.lxtr_write.proofs.put_map.Statement.{statement}
 use Rattle.lxtr_write.proofs.put_map.Tie as tie
 
-pub put-map-spec : {M : Type 1} → statement M
-put-map-spec =
+pub put_map_spec : {M : Type 1} → statement M
+put_map_spec =
     tie.close
     (tie.spec
     (λ c. search rules)

@@ -17,8 +17,8 @@ invariant-loop out₀ work slots words i₀ out i = (words ≡ 2 * slots) × (i 
 abbrev decreases-loop : tie.decreases-loop
 decreases-loop out₀ work slots words i₀ out i = words - i
 
-pub put-nodes-spec : {M : Type 1} → statement M
-put-nodes-spec =
+pub put_nodes_spec : {M : Type 1} → statement M
+put_nodes_spec =
     tie.close
     (tie.spec
     invariant-loop

@@ -5,8 +5,8 @@ use Rattle.lxtr_write.specs.SectionWriting.{image_put}
 use Rattle.lxtr_write.proofs.put_sections.Statement.{statement}
 use Rattle.lxtr_write.proofs.put_sections.Tie as tie
 
-pub put-sections-spec : {M : Type 1} → statement M
-put-sections-spec =
+pub put_sections_spec : {M : Type 1} → statement M
+put_sections_spec =
     tie.close
     (tie.spec
     (λ c. search rules)

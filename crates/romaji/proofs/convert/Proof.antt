@@ -6,8 +6,8 @@ use Rattle.romaji.specs.Answering.{convert_refused, table_kept, no_empty_key, co
 use Rattle.romaji.proofs.convert.Statement.{statement}
 use Rattle.romaji.proofs.convert.Tie as tie
 
-pub convert-spec : {M : Type 1} → statement M
-convert-spec =
+pub convert_spec : {M : Type 1} → statement M
+convert_spec =
     tie.close
     (tie.spec
     (λ c. search rules)

@@ -4,8 +4,8 @@ use Rattle.romaji.specs.Answering.{text_no_room, room_enough, rest_from, rest_si
 use Rattle.romaji.proofs.convert_text.Statement.{statement}
 use Rattle.romaji.proofs.convert_text.Tie as tie
 
-pub convert-text-spec : {M : Type 1} → statement M
-convert-text-spec =
+pub convert_text_spec : {M : Type 1} → statement M
+convert_text_spec =
     tie.close
     (tie.spec
     (λ c κs. search rules)

@@ -13,8 +13,8 @@ invariant-loop image kana places kept typed keeping room length left₀ at₀ le
 abbrev decreases-loop : tie.decreases-loop
 decreases-loop image kana places kept typed keeping room length left₀ at₀ left at = length - at
 
-pub fits-spec : {M : Type 1} → statement M
-fits-spec =
+pub fits_spec : {M : Type 1} → statement M
+fits_spec =
     tie.close
     (tie.spec
     invariant-loop

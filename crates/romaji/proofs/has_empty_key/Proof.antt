@@ -4,8 +4,8 @@ use Rattle.romaji.specs.Answering.{empty_found, empty_missing}
 use Rattle.romaji.proofs.has_empty_key.Statement.{statement}
 use Rattle.romaji.proofs.has_empty_key.Tie as tie
 
-pub has-empty-key-spec : {M : Type 1} → statement M
-has-empty-key-spec =
+pub has_empty_key_spec : {M : Type 1} → statement M
+has_empty_key_spec =
     tie.close
     (tie.spec
     (λ c. search rules)

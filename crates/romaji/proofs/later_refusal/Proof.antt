@@ -4,8 +4,8 @@ use Rattle.lxtr_laws.specs.RefusalChains.{chain}
 use Rattle.romaji.proofs.later_refusal.Statement.{statement}
 use Rattle.romaji.proofs.later_refusal.Tie as tie
 
-pub later-refusal-spec : {M : Type 1} → statement M
-later-refusal-spec =
+pub later_refusal_spec : {M : Type 1} → statement M
+later_refusal_spec =
     tie.close
     (tie.spec
     (λ c κs. search rules)

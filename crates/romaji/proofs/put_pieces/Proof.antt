@@ -20,8 +20,8 @@ piece c = c.before.before
 abbrev loop : tie.After-next-piece invariant-loop decreases-loop → tie.At-loop invariant-loop decreases-loop
 loop c = c.before.before
 
-pub put-pieces-spec : {M : Type 1} → statement M
-put-pieces-spec =
+pub put_pieces_spec : {M : Type 1} → statement M
+put_pieces_spec =
     tie.close
     (tie.spec
     invariant-loop

@@ -7,8 +7,8 @@ use Rattle.romaji.specs.Answering.{image_refused, indexed, later_tested}
 use Rattle.romaji.proofs.test_table.Statement.{statement}
 use Rattle.romaji.proofs.test_table.Tie as tie
 
-pub test-table-spec : {M : Type 1} → statement M
-test-table-spec =
+pub test_table_spec : {M : Type 1} → statement M
+test_table_spec =
     tie.close
     (tie.spec
     (λ c κs. search rules)

@@ -4,9 +4,9 @@ use Rattle.romaji_spec.specs.Typing.{type_of}
 use Rattle.romaji.proofs.type_bytes.Statement.{statement}
 use Rattle.romaji.proofs.type_bytes.Tie as tie
 
-pub type-bytes-spec : {M : Type 1} → statement M
+pub type_bytes_spec : {M : Type 1} → statement M
 unfolding type_of
-type-bytes-spec =
+type_bytes_spec =
     tie.close
     (tie.spec
     (λ c κs. search rules)

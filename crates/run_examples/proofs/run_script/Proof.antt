@@ -9,8 +9,8 @@ invariant-loop script image₀ bytes₀ place₀ left₀ image bytes place left 
 abbrev decreases-loop : tie.decreases-loop
 decreases-loop script image₀ bytes₀ place₀ left₀ image bytes place left = left
 
-pub run-script-spec : {M : Type 1} → statement M
-run-script-spec =
+pub run_script_spec : {M : Type 1} → statement M
+run_script_spec =
     tie.close
     (tie.spec
     invariant-loop

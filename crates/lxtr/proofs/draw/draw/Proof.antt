@@ -4,8 +4,8 @@ use Rattle.lxtr.specs.Parts.{passed}
 use Rattle.lxtr.proofs.draw.draw.Statement.{statement}
 use Rattle.lxtr.proofs.draw.draw.Tie as tie
 
-pub draw-spec : {M : Type 1} → statement M
-draw-spec =
+pub draw_spec : {M : Type 1} → statement M
+draw_spec =
     tie.close
     (tie.spec
     (λ c κs. search rules)

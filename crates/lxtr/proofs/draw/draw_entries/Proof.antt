@@ -15,8 +15,8 @@ invariant-loop image fault children p₀ j₀ p j = (children ≡ child_count im
 abbrev decreases-loop : tie.decreases-loop
 decreases-loop image fault children p₀ j₀ p j = children - j
 
-pub draw-entries-spec : {M : Type 1} → statement M
-draw-entries-spec =
+pub draw_entries_spec : {M : Type 1} → statement M
+draw_entries_spec =
     tie.close
     (tie.spec
     invariant-loop

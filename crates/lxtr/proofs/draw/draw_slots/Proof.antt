@@ -13,8 +13,8 @@ invariant-loop image fault slots s₀ s = slots ≡ slot_count image
 abbrev decreases-loop : tie.decreases-loop
 decreases-loop image fault slots s₀ s = slots - s
 
-pub draw-slots-spec : {M : Type 1} → statement M
-draw-slots-spec =
+pub draw_slots_spec : {M : Type 1} → statement M
+draw_slots_spec =
     tie.close
     (tie.spec
     invariant-loop

@@ -4,8 +4,8 @@ use Rattle.lxtr_words.specs.Listed.{list_cut, list_within}
 use Rattle.lxtr.proofs.makers.list_into.Statement.{statement}
 use Rattle.lxtr.proofs.makers.list_into.Tie as tie
 
-pub list-into-spec : {M : Type 1} → statement M
-list-into-spec =
+pub list_into_spec : {M : Type 1} → statement M
+list_into_spec =
     tie.close
     (tie.spec
     (λ c κs. search rules)

@@ -7,8 +7,8 @@ use Rattle.lxtr_laws.specs.Overlays.{byte_before}
 use Rattle.lxtr_bytes.proofs.heads.put_head.Statement.{statement}
 use Rattle.lxtr_bytes.proofs.heads.put_head.Tie as tie
 
-pub put-head-spec : {M : Type 1} → statement M
-put-head-spec =
+pub put_head_spec : {M : Type 1} → statement M
+put_head_spec =
     tie.close
     (tie.spec
     (λ c. search rules)

@@ -4,6 +4,6 @@ use Rattle.lxtr_spec.specs.Labels.{is_scalar}
 use Rattle.lxtr_bytes.proofs.labels.is_scalar.Statement.{statement}
 use Rattle.lxtr_bytes.proofs.labels.is_scalar.Tie as tie
 
-pub is-scalar-spec : {M : Type 1} → statement M
+pub is_scalar_spec : {M : Type 1} → statement M
 unfolding is_scalar
-is-scalar-spec = tie.close (tie.spec (λ c. refl))
+is_scalar_spec = tie.close (tie.spec (λ c. refl))

@@ -4,8 +4,8 @@ use Rattle.lxtr_laws.specs.QueryLabels.{label_count_lem}
 use Rattle.lxtr_bytes.proofs.labels.label_count.Statement.{statement}
 use Rattle.lxtr_bytes.proofs.labels.label_count.Tie as tie
 
-pub label-count-spec : {M : Type 1} → statement M
-label-count-spec =
+pub label_count_spec : {M : Type 1} → statement M
+label_count_spec =
     tie.close
     (tie.spec
     (λ c. sym (label_count_lem _)))

@@ -4,9 +4,9 @@ use Rattle.lxtr_spec.specs.Numbers.{be32}
 use Rattle.lxtr_bytes.proofs.numbers.be32_at.Statement.{statement}
 use Rattle.lxtr_bytes.proofs.numbers.be32_at.Tie as tie
 
-pub be32-at-spec : {M : Type 1} → statement M
+pub be32_at_spec : {M : Type 1} → statement M
 unfolding be32
-be32-at-spec =
+be32_at_spec =
     tie.close
     (tie.spec
     (λ c. search rules)

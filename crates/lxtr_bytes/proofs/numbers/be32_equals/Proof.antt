@@ -4,9 +4,9 @@ use Rattle.lxtr_spec.specs.Numbers.{be32}
 use Rattle.lxtr_bytes.proofs.numbers.be32_equals.Statement.{statement}
 use Rattle.lxtr_bytes.proofs.numbers.be32_equals.Tie as tie
 
-pub be32-equals-spec : {M : Type 1} → statement M
+pub be32_equals_spec : {M : Type 1} → statement M
 unfolding be32
-be32-equals-spec =
+be32_equals_spec =
     tie.close
     (tie.spec
     (λ c. search rules)

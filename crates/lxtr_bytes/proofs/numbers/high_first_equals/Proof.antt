@@ -4,5 +4,5 @@ use Rattle.lxtr_bytes.specs.Swapping.{swapped_equal}
 use Rattle.lxtr_bytes.proofs.numbers.high_first_equals.Statement.{statement}
 use Rattle.lxtr_bytes.proofs.numbers.high_first_equals.Tie as tie
 
-pub high-first-equals-spec : {M : Type 1} → statement M
-high-first-equals-spec = tie.close (tie.spec (λ c κs. search rules) (λ c κs. search rules) (λ c. search (swapped_equal, rules)))
+pub high_first_equals_spec : {M : Type 1} → statement M
+high_first_equals_spec = tie.close (tie.spec (λ c κs. search rules) (λ c κs. search rules) (λ c. search (swapped_equal, rules)))

@@ -4,9 +4,9 @@ use Rattle.lxtr_spec.specs.Numbers.{le32}
 use Rattle.lxtr_bytes.proofs.numbers.le32_at.Statement.{statement}
 use Rattle.lxtr_bytes.proofs.numbers.le32_at.Tie as tie
 
-pub le32-at-spec : {M : Type 1} → statement M
+pub le32_at_spec : {M : Type 1} → statement M
 unfolding le32
-le32-at-spec =
+le32_at_spec =
     tie.close
     (tie.spec
     (λ c. search rules)

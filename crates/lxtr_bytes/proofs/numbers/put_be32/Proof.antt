@@ -7,9 +7,9 @@ use Rattle.lxtr_laws.specs.Overlays.{four_put}
 use Rattle.lxtr_bytes.proofs.numbers.put_be32.Statement.{statement}
 use Rattle.lxtr_bytes.proofs.numbers.put_be32.Tie as tie
 
-pub put-be32-spec : {M : Type 1} → statement M
+pub put_be32_spec : {M : Type 1} → statement M
 unfolding be_bytes
-put-be32-spec =
+put_be32_spec =
     tie.close
     (tie.spec
     (λ c. search rules)

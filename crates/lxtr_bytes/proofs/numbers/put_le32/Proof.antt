@@ -7,9 +7,9 @@ use Rattle.lxtr_laws.specs.Overlays.{four_put}
 use Rattle.lxtr_bytes.proofs.numbers.put_le32.Statement.{statement}
 use Rattle.lxtr_bytes.proofs.numbers.put_le32.Tie as tie
 
-pub put-le32-spec : {M : Type 1} → statement M
+pub put_le32_spec : {M : Type 1} → statement M
 unfolding le_bytes
-put-le32-spec =
+put_le32_spec =
     tie.close
     (tie.spec
     (λ c. search rules)

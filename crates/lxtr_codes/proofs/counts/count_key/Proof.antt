@@ -13,8 +13,8 @@ invariant-loop keys at labels guesses counts₀ len j₀ counts j = KeyCounting 
 abbrev decreases-loop : tie.decreases-loop
 decreases-loop keys at labels guesses counts₀ len j₀ counts j = len - j
 
-pub count-key-spec : {M : Type 1} → statement M
-count-key-spec =
+pub count_key_spec : {M : Type 1} → statement M
+count_key_spec =
     tie.close
     (tie.spec
     invariant-loop

@@ -14,8 +14,8 @@ invariant-loop keys labels guesses counts₀ count at₀ i₀ counts at i = (len
 abbrev decreases-loop : tie.decreases-loop
 decreases-loop keys labels guesses counts₀ count at₀ i₀ counts at i = count - i
 
-pub count-keys-spec : {M : Type 1} → statement M
-count-keys-spec =
+pub count_keys_spec : {M : Type 1} → statement M
+count_keys_spec =
     tie.close
     (tie.spec
     invariant-loop

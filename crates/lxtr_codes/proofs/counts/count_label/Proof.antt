@@ -4,8 +4,8 @@ use Rattle.lxtr_codes.specs.LabelCounting.{count_fits, count_put}
 use Rattle.lxtr_codes.proofs.counts.count_label.Statement.{statement}
 use Rattle.lxtr_codes.proofs.counts.count_label.Tie as tie
 
-pub count-label-spec : {M : Type 1} → statement M
-count-label-spec =
+pub count_label_spec : {M : Type 1} → statement M
+count_label_spec =
     tie.close
     (tie.spec
     (λ c κs. search rules)

@@ -83,9 +83,9 @@ module _ (t : ℕ) where
   abbrev start : Loop → Entry
   start l = entry (some (read l))
 
-pub +list-below-spec : {M : Type 1} → statement M
+pub +list_below_spec : {M : Type 1} → statement M
 unfolding max_labels
-+list-below-spec =
++list_below_spec =
     close μ-list-below λ t. lts.spec (told t) (at t) list_below.Post Inv μ
     (λ c. (search list_none, search kept_none))
     (λ c. search rules)

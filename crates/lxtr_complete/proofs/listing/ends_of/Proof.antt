@@ -5,8 +5,8 @@ use Rattle.lxtr_complete.specs.Listing.{no_flag, no_list, first_listed, no_end, 
 use Rattle.lxtr_complete.proofs.listing.ends_of.Statement.{statement}
 use Rattle.lxtr_complete.proofs.listing.ends_of.Tie as tie
 
-pub ends-of-spec : {M : Type 1} → statement M
-ends-of-spec =
+pub ends_of_spec : {M : Type 1} → statement M
+ends_of_spec =
     tie.close
     (tie.spec
     (λ c κs. (search accepted_whole, search rules))

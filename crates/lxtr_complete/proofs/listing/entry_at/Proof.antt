@@ -4,8 +4,8 @@ use Rattle.lxtr_complete.specs.Listing.{inner_entry, entry_code, entry_label}
 use Rattle.lxtr_complete.proofs.listing.entry_at.Statement.{statement}
 use Rattle.lxtr_complete.proofs.listing.entry_at.Tie as tie
 
-pub entry-at-spec : {M : Type 1} → statement M
-entry-at-spec =
+pub entry_at_spec : {M : Type 1} → statement M
+entry_at_spec =
     tie.close
     (tie.spec
     (λ c κs. (search rules, search rules))

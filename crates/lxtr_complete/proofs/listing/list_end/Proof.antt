@@ -6,9 +6,9 @@ use Rattle.lxtr_complete.specs.Listing.{end_none, end_place, end_put, ready_set,
 use Rattle.lxtr_complete.proofs.listing.list_end.Statement.{statement}
 use Rattle.lxtr_complete.proofs.listing.list_end.Tie as tie
 
-pub list-end-spec : {M : Type 1} → statement M
+pub list_end_spec : {M : Type 1} → statement M
 unfolding max_labels
-list-end-spec =
+list_end_spec =
     tie.close
     (tie.spec
     (λ c. (search end_none, search kept_none))

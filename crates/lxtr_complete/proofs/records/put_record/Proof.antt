@@ -8,8 +8,8 @@ use Rattle.lxtr_complete.specs.RecordWriting.{record_in, record_not}
 use Rattle.lxtr_complete.proofs.records.put_record.Statement.{statement}
 use Rattle.lxtr_complete.proofs.records.put_record.Tie as tie
 
-pub put-record-spec : {M : Type 1} → statement M
-put-record-spec =
+pub put_record_spec : {M : Type 1} → statement M
+put_record_spec =
     tie.close
     (tie.spec
     (λ c. omega (arith, length_fits_byte))

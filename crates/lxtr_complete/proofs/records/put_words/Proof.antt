@@ -17,9 +17,9 @@ invariant-loop path len room₀ at i₀ room i = (i ≤ len) × (length room ≡
 abbrev decreases-loop : tie.decreases-loop
 decreases-loop path len room₀ at i₀ room i = len - i
 
-pub put-words-spec : {M : Type 1} → statement M
+pub put_words_spec : {M : Type 1} → statement M
 unfolding max_labels
-put-words-spec =
+put_words_spec =
     tie.close
     (tie.spec
     invariant-loop

@@ -4,9 +4,9 @@ use Rattle.lxtr_entries_spec.specs.EntryTables.{entries_at}
 use Rattle.lxtr_entries.proofs.tables.entries_at.Statement.{statement}
 use Rattle.lxtr_entries.proofs.tables.entries_at.Tie as tie
 
-pub entries-at-spec : {M : Type 1} → statement M
+pub entries_at_spec : {M : Type 1} → statement M
 unfolding entries_at
-entries-at-spec =
+entries_at_spec =
     tie.close
     (tie.spec
     (λ c κs. search rules)

@@ -4,8 +4,8 @@ use Rattle.lxtr_entries.specs.Reading.{start_within, entries_counted}
 use Rattle.lxtr_entries.proofs.tables.entry_count.Statement.{statement}
 use Rattle.lxtr_entries.proofs.tables.entry_count.Tie as tie
 
-pub entry-count-spec : {M : Type 1} → statement M
-entry-count-spec =
+pub entry_count_spec : {M : Type 1} → statement M
+entry_count_spec =
     tie.close
     (tie.spec
     (λ c κs. search has_head)

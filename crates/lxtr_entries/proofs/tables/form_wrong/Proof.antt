@@ -4,8 +4,8 @@ use Rattle.lxtr_entries.specs.Reading.{no_head, other_version, no_offsets, rest_
 use Rattle.lxtr_entries.proofs.tables.form_wrong.Statement.{statement}
 use Rattle.lxtr_entries.proofs.tables.form_wrong.Tie as tie
 
-pub form-wrong-spec : {M : Type 1} → statement M
-form-wrong-spec =
+pub form_wrong_spec : {M : Type 1} → statement M
+form_wrong_spec =
     tie.close
     (tie.spec
     (λ c. search no_head)

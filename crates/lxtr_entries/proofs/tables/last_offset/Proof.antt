@@ -5,8 +5,8 @@ use Rattle.lxtr_entries.specs.Reading.{last_read}
 use Rattle.lxtr_entries.proofs.tables.last_offset.Statement.{statement}
 use Rattle.lxtr_entries.proofs.tables.last_offset.Tie as tie
 
-pub last-offset-spec : {M : Type 1} → statement M
-last-offset-spec =
+pub last_offset_spec : {M : Type 1} → statement M
+last_offset_spec =
     tie.close
     (tie.spec
     (λ c κs. search has_head)

@@ -6,9 +6,9 @@ use Rattle.lxtr_entries_laws.specs.TableFacts.{offset_within}
 use Rattle.lxtr_entries.proofs.tables.offset_at.Statement.{statement}
 use Rattle.lxtr_entries.proofs.tables.offset_at.Tie as tie
 
-pub offset-at-spec : {M : Type 1} → statement M
+pub offset_at_spec : {M : Type 1} → statement M
 unfolding table_offset
-offset-at-spec =
+offset_at_spec =
     tie.close
     (tie.spec
     (λ c. omega (arith, offset_within _ c.before.requires.0 _ c.before.requires.1))

@@ -4,8 +4,8 @@ use Rattle.lxtr_laws.specs.RefusalChains.{chain}
 use Rattle.lxtr_entries.proofs.tables.offsets_refusal.Statement.{statement}
 use Rattle.lxtr_entries.proofs.tables.offsets_refusal.Tie as tie
 
-pub offsets-refusal-spec : {M : Type 1} → statement M
-offsets-refusal-spec =
+pub offsets_refusal_spec : {M : Type 1} → statement M
+offsets_refusal_spec =
     tie.close
     (tie.spec
     (λ c κs. search rules)

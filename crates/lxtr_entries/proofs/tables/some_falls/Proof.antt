@@ -14,8 +14,8 @@ invariant-loop table count before₀ i₀ before i = (count ≡ value_count tabl
 abbrev decreases-loop : tie.decreases-loop
 decreases-loop table count before₀ i₀ before i = count - i
 
-pub some-falls-spec : {M : Type 1} → statement M
-some-falls-spec =
+pub some_falls_spec : {M : Type 1} → statement M
+some_falls_spec =
     tie.close
     (tie.spec
     invariant-loop

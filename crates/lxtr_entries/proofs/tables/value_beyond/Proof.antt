@@ -5,8 +5,8 @@ use Rattle.lxtr_entries.specs.Reading.{beyond_value, beyond_none}
 use Rattle.lxtr_entries.proofs.tables.value_beyond.Statement.{statement}
 use Rattle.lxtr_entries.proofs.tables.value_beyond.Tie as tie
 
-pub value-beyond-spec : {M : Type 1} → statement M
-value-beyond-spec =
+pub value_beyond_spec : {M : Type 1} → statement M
+value_beyond_spec =
     tie.close
     (tie.spec
     (λ c. search rules)

@@ -4,8 +4,8 @@ use Rattle.lxtr_fault.specs.FaultTests.{entry_fits, entry_placed}
 use Rattle.lxtr_fault.proofs.list_faults.entry_fault.Statement.{statement}
 use Rattle.lxtr_fault.proofs.list_faults.entry_fault.Tie as tie
 
-pub entry-fault-spec : {M : Type 1} → statement M
-entry-fault-spec =
+pub entry_fault_spec : {M : Type 1} → statement M
+entry_fault_spec =
     tie.close
     (tie.spec
     (λ c κs. search rules)

@@ -14,8 +14,8 @@ invariant-loop image slots s₀ s = (slots ≡ slot_count image) × NoneSoFar (c
 abbrev decreases-loop : tie.decreases-loop
 decreases-loop image slots s₀ s = slots - s
 
-pub first-childless-spec : {M : Type 1} → statement M
-first-childless-spec =
+pub first_childless_spec : {M : Type 1} → statement M
+first_childless_spec =
     tie.close
     (tie.spec
     invariant-loop

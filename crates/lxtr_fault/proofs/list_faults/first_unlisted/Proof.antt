@@ -14,8 +14,8 @@ invariant-loop image slots s₀ s = (slots ≡ slot_count image) × NoneSoFar (u
 abbrev decreases-loop : tie.decreases-loop
 decreases-loop image slots s₀ s = slots - s
 
-pub first-unlisted-spec : {M : Type 1} → statement M
-first-unlisted-spec =
+pub first_unlisted_spec : {M : Type 1} → statement M
+first_unlisted_spec =
     tie.close
     (tie.spec
     invariant-loop

@@ -15,8 +15,8 @@ invariant-loop image p s width i₀ i = (width ≡ list_width image p) × NoneSo
 abbrev decreases-loop : tie.decreases-loop
 decreases-loop image p s width i₀ i = width - i
 
-pub has-entry-spec : {M : Type 1} → statement M
-has-entry-spec =
+pub has_entry_spec : {M : Type 1} → statement M
+has_entry_spec =
     tie.close
     (tie.spec
     invariant-loop

@@ -4,9 +4,9 @@ use Rattle.lxtr_spec.specs.FaultPlaces.{is_entry}
 use Rattle.lxtr_fault.proofs.list_faults.is_entry.Statement.{statement}
 use Rattle.lxtr_fault.proofs.list_faults.is_entry.Tie as tie
 
-pub is-entry-spec : {M : Type 1} → statement M
+pub is_entry_spec : {M : Type 1} → statement M
 unfolding is_entry
-is-entry-spec =
+is_entry_spec =
     tie.close
     (tie.spec
     (λ c κs. search rules)

@@ -5,8 +5,8 @@ use Rattle.lxtr_fault.specs.FaultTests.{list_offset, list_entry, list_unlisted, 
 use Rattle.lxtr_fault.proofs.list_faults.list_fault.Statement.{statement}
 use Rattle.lxtr_fault.proofs.list_faults.list_fault.Tie as tie
 
-pub list-fault-spec : {M : Type 1} → statement M
-list-fault-spec =
+pub list_fault_spec : {M : Type 1} → statement M
+list_fault_spec =
     tie.close
     (tie.spec
     (λ c κs. search rules)

@@ -4,8 +4,8 @@ use Rattle.lxtr_fault.specs.FaultTests.{unused_listed, parent_slot, listed_teste
 use Rattle.lxtr_fault.proofs.list_faults.unlisted.Statement.{statement}
 use Rattle.lxtr_fault.proofs.list_faults.unlisted.Tie as tie
 
-pub unlisted-spec : {M : Type 1} → statement M
-unlisted-spec =
+pub unlisted_spec : {M : Type 1} → statement M
+unlisted_spec =
     tie.close
     (tie.spec
     (λ c κs. search rules)

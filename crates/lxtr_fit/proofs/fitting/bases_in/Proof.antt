@@ -12,8 +12,8 @@ invariant-loop free block codes bases₀ j₀ bases j = BasesSoFar free codes bl
 abbrev decreases-loop : tie.decreases-loop
 decreases-loop free block codes bases₀ j₀ bases j = length codes - j
 
-pub bases-in-spec : {M : Type 1} → statement M
-bases-in-spec =
+pub bases_in_spec : {M : Type 1} → statement M
+bases_in_spec =
     tie.close
     (tie.spec
     invariant-loop

@@ -4,8 +4,8 @@ use Rattle.lxtr_fit.specs.Fitting.{fit_no_codes, fit_none_left, lowest_risen, fi
 use Rattle.lxtr_fit.proofs.fitting.first_fit.Statement.{statement}
 use Rattle.lxtr_fit.proofs.fitting.first_fit.Tie as tie
 
-pub first-fit-spec : {M : Type 1} → statement M
-first-fit-spec =
+pub first_fit_spec : {M : Type 1} → statement M
+first_fit_spec =
     tie.close
     (tie.spec
     (λ c. (search fit_no_codes, search rules))

@@ -15,8 +15,8 @@ invariant-loop free first codes block₀ block = NoBaseSoFar free codes first bl
 abbrev decreases-loop : tie.decreases-loop
 decreases-loop free first codes block₀ block = base_count / word_bits - block
 
-pub fit-from-spec : {M : Type 1} → statement M
-fit-from-spec =
+pub fit_from_spec : {M : Type 1} → statement M
+fit_from_spec =
     tie.close
     (tie.spec
     invariant-loop

@@ -12,8 +12,8 @@ invariant-loop work slots free₀ i₀ free i = SetSoFar slots free i
 abbrev decreases-loop : tie.decreases-loop
 decreases-loop work slots free₀ i₀ free i = map_words - i
 
-pub mark-free-spec : {M : Type 1} → statement M
-mark-free-spec =
+pub mark_free_spec : {M : Type 1} → statement M
+mark_free_spec =
     tie.close
     (tie.spec
     invariant-loop

@@ -14,8 +14,8 @@ invariant-loop free from at₀ at = NoFreeSoFar free from at
 abbrev decreases-loop : tie.decreases-loop
 decreases-loop free from at₀ at = max_slots - at
 
-pub next-free-spec : {M : Type 1} → statement M
-next-free-spec =
+pub next_free_spec : {M : Type 1} → statement M
+next_free_spec =
     tie.close
     (tie.spec
     invariant-loop

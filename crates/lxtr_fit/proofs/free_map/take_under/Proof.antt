@@ -14,8 +14,8 @@ invariant-loop free₀ base codes j₀ free j = StepsSoFar (taken_by base) codes
 abbrev decreases-loop : tie.decreases-loop
 decreases-loop free₀ base codes j₀ free j = length codes - j
 
-pub take-under-spec : {M : Type 1} → statement M
-take-under-spec =
+pub take_under_spec : {M : Type 1} → statement M
+take_under_spec =
     tie.close
     (tie.spec
     invariant-loop

@@ -4,8 +4,8 @@ use Rattle.lxtr_fit.specs.MapLoops.{below_none, below_all_lem, below_positive, b
 use Rattle.lxtr_fit.proofs.free_map.word_below.Statement.{statement}
 use Rattle.lxtr_fit.proofs.free_map.word_below.Tie as tie
 
-pub word-below-spec : {M : Type 1} → statement M
-word-below-spec =
+pub word_below_spec : {M : Type 1} → statement M
+word_below_spec =
     tie.close
     (tie.spec
     (λ c. search rules)

@@ -5,9 +5,9 @@ use Rattle.lxtr_host.specs.Numbering.{fault_case}
 use Rattle.lxtr_host.proofs.numbers.fault_numbered.Statement.{statement}
 use Rattle.lxtr_host.proofs.numbers.fault_numbered.Tie as tie
 
-pub fault-numbered-spec : {M : Type 1} → statement M
+pub fault_numbered_spec : {M : Type 1} → statement M
 unfolding fault_numbered
-fault-numbered-spec =
+fault_numbered_spec =
     tie.close
     (tie.spec
     (λ c. search rules)

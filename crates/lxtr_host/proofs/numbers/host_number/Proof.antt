@@ -6,8 +6,8 @@ use Rattle.lxtr_host.specs.Numbering.{number_added}
 use Rattle.lxtr_host.proofs.numbers.host_number.Statement.{statement}
 use Rattle.lxtr_host.proofs.numbers.host_number.Tie as tie
 
-pub host-number-spec : {M : Type 1} → statement M
-host-number-spec =
+pub host_number_spec : {M : Type 1} → statement M
+host_number_spec =
     tie.close
     (tie.spec
     (λ c. search rules)

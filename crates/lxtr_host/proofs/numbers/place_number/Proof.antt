@@ -5,9 +5,9 @@ use Rattle.lxtr_spec.specs.HostNumbers.{place_number}
 use Rattle.lxtr_host.proofs.numbers.place_number.Statement.{statement}
 use Rattle.lxtr_host.proofs.numbers.place_number.Tie as tie
 
-pub place-number-spec : {M : Type 1} → statement M
+pub place_number_spec : {M : Type 1} → statement M
 unfolding place_number
-place-number-spec =
+place_number_spec =
     tie.close
     (tie.spec
     (λ c. search rules)

@@ -6,9 +6,9 @@ use Rattle.lxtr_host.specs.Numbering.{reason_case}
 use Rattle.lxtr_host.proofs.numbers.reason_numbered.Statement.{statement}
 use Rattle.lxtr_host.proofs.numbers.reason_numbered.Tie as tie
 
-pub reason-numbered-spec : {M : Type 1} → statement M
+pub reason_numbered_spec : {M : Type 1} → statement M
 unfolding reason_number reason_place reason_numbered
-reason-numbered-spec =
+reason_numbered_spec =
     tie.close
     (tie.spec
     (λ c. search rules)

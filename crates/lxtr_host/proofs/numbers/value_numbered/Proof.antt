@@ -4,8 +4,8 @@ use Rattle.lxtr_host.specs.Numbering.{value_number_lem, none_number}
 use Rattle.lxtr_host.proofs.numbers.value_numbered.Statement.{statement}
 use Rattle.lxtr_host.proofs.numbers.value_numbered.Tie as tie
 
-pub value-numbered-spec : {M : Type 1} → statement M
-value-numbered-spec =
+pub value_numbered_spec : {M : Type 1} → statement M
+value_numbered_spec =
     tie.close
     (tie.spec
     (λ c. search rules)

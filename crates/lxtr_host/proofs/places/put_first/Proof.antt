@@ -4,5 +4,5 @@ use Rattle.lxtr_host.specs.PlaceWords.{no_word, first_word}
 use Rattle.lxtr_host.proofs.places.put_first.Statement.{statement}
 use Rattle.lxtr_host.proofs.places.put_first.Tie as tie
 
-pub put-first-spec : {M : Type 1} → statement M
-put-first-spec = tie.close (tie.spec (λ c. search no_word) (λ c. search rules) (λ c. search rules) (λ c. search first_word))
+pub put_first_spec : {M : Type 1} → statement M
+put_first_spec = tie.close (tie.spec (λ c. search no_word) (λ c. search rules) (λ c. search rules) (λ c. search first_word))

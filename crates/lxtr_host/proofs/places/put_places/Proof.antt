@@ -15,9 +15,9 @@ invariant-loop lengths values places₀ count pairs i₀ places i =
 abbrev decreases-loop : tie.decreases-loop
 decreases-loop lengths values places₀ count pairs i₀ places i = pairs - i
 
-pub put-places-spec : {M : Type 1} → statement M
+pub put_places_spec : {M : Type 1} → statement M
 unfolding max_labels
-put-places-spec =
+put_places_spec =
     tie.close
     (tie.spec
     invariant-loop

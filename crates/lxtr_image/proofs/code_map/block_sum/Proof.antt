@@ -11,8 +11,8 @@ invariant-loop image label i sum₀ k₀ sum k = SumSoFar image label i k sum
 abbrev decreases-loop : tie.decreases-loop
 decreases-loop image label i sum₀ k₀ sum k = block_size - k
 
-pub block-sum-spec : {M : Type 1} → statement M
-block-sum-spec =
+pub block_sum_spec : {M : Type 1} → statement M
+block_sum_spec =
     tie.close
     (tie.spec
     invariant-loop

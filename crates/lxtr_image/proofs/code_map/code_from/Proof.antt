@@ -13,8 +13,8 @@ invariant-loop image label from count i₀ i = (count ≡ label_count image) × 
 abbrev decreases-loop : tie.decreases-loop
 decreases-loop image label from count i₀ i = count - i
 
-pub code-from-spec : {M : Type 1} → statement M
-code-from-spec =
+pub code_from_spec : {M : Type 1} → statement M
+code_from_spec =
     tie.close
     (tie.spec
     invariant-loop

@@ -15,8 +15,8 @@ invariant-loop image label count i₀ i = (count ≡ label_count image) × (i �
 abbrev decreases-loop : tie.decreases-loop
 decreases-loop image label count i₀ i = count - i
 
-pub code-of-spec : {M : Type 1} → statement M
-code-of-spec =
+pub code_of_spec : {M : Type 1} → statement M
+code_of_spec =
     tie.close
     (tie.spec
     invariant-loop

@@ -4,5 +4,5 @@ use Rattle.lxtr_image.specs.CodeSearch.{label_compared}
 use Rattle.lxtr_image.proofs.code_map.has_label.Statement.{statement}
 use Rattle.lxtr_image.proofs.code_map.has_label.Tie as tie
 
-pub has-label-spec : {M : Type 1} → statement M
-has-label-spec = tie.close (tie.spec (λ c κs. search rules) (λ c κs. search rules) (λ c. search label_compared))
+pub has_label_spec : {M : Type 1} → statement M
+has_label_spec = tie.close (tie.spec (λ c κs. search rules) (λ c κs. search rules) (λ c. search label_compared))

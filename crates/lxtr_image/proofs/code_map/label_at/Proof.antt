@@ -4,5 +4,5 @@ use Rattle.lxtr_image.specs.CodeSearch.{label_read}
 use Rattle.lxtr_image.proofs.code_map.label_at.Statement.{statement}
 use Rattle.lxtr_image.proofs.code_map.label_at.Tie as tie
 
-pub label-at-spec : {M : Type 1} → statement M
-label-at-spec = tie.close (tie.spec (λ c κs. search rules) (λ c κs. search rules) (λ c. search label_read))
+pub label_at_spec : {M : Type 1} → statement M
+label_at_spec = tie.close (tie.spec (λ c κs. search rules) (λ c κs. search rules) (λ c. search label_read))

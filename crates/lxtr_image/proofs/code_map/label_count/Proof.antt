@@ -4,9 +4,9 @@ use Rattle.lxtr_spec.specs.Image.{label_count}
 use Rattle.lxtr_image.proofs.code_map.label_count.Statement.{statement}
 use Rattle.lxtr_image.proofs.code_map.label_count.Tie as tie
 
-pub label-count-spec : {M : Type 1} → statement M
+pub label_count_spec : {M : Type 1} → statement M
 unfolding label_count
-label-count-spec =
+label_count_spec =
     tie.close
     (tie.spec
     (λ c κs. search rules)

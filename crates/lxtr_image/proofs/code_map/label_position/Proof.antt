@@ -4,8 +4,8 @@ use Rattle.lxtr_image.specs.CodeSearch.{from_end}
 use Rattle.lxtr_image.proofs.code_map.label_position.Statement.{statement}
 use Rattle.lxtr_image.proofs.code_map.label_position.Tie as tie
 
-pub label-position-spec : {M : Type 1} → statement M
-label-position-spec =
+pub label_position_spec : {M : Type 1} → statement M
+label_position_spec =
     tie.close
     (tie.spec
     (λ c κs. search rules)

@@ -4,9 +4,9 @@ use Rattle.lxtr_spec.specs.Image.{map_version}
 use Rattle.lxtr_image.proofs.code_map.map_version.Statement.{statement}
 use Rattle.lxtr_image.proofs.code_map.map_version.Tie as tie
 
-pub map-version-spec : {M : Type 1} → statement M
+pub map_version_spec : {M : Type 1} → statement M
 unfolding map_version
-map-version-spec =
+map_version_spec =
     tie.close
     (tie.spec
     (λ c κs. search rules)

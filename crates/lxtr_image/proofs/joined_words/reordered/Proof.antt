@@ -8,9 +8,9 @@ use Rattle.lxtr_laws.specs.JoinedWords.{swaps_at, wrong_at, is_swap_mask, all_re
 use Rattle.lxtr_image.proofs.joined_words.reordered.Statement.{statement}
 use Rattle.lxtr_image.proofs.joined_words.reordered.Tie as tie
 
-pub reordered-spec : {M : Type 1} → statement M
+pub reordered_spec : {M : Type 1} → statement M
 unfolding any_below slot_under bit swaps_at wrong_at is_swap_mask
-reordered-spec =
+reordered_spec =
     tie.close
     (tie.spec
     (λ c κs. (omega arith, (omega arith, refl)))

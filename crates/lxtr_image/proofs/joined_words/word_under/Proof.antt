@@ -5,8 +5,8 @@ use Rattle.lxtr_laws.specs.JoinedWords.{under_past, under_none, under_some}
 use Rattle.lxtr_image.proofs.joined_words.word_under.Statement.{statement}
 use Rattle.lxtr_image.proofs.joined_words.word_under.Tie as tie
 
-pub word-under-spec : {M : Type 1} → statement M
-word-under-spec =
+pub word_under_spec : {M : Type 1} → statement M
+word_under_spec =
     tie.close
     (tie.spec
     (λ c. search rules)

@@ -4,9 +4,9 @@ use Rattle.lxtr_spec.specs.Image.{code_to}
 use Rattle.lxtr_image.proofs.joining.code_to.Statement.{statement}
 use Rattle.lxtr_image.proofs.joining.code_to.Tie as tie
 
-pub code-to-spec : {M : Type 1} → statement M
+pub code_to_spec : {M : Type 1} → statement M
 unfolding code_to
-code-to-spec =
+code_to_spec =
     tie.close
     (tie.spec
     (λ c κs. search rules)

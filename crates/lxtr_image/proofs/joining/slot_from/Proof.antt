@@ -4,9 +4,9 @@ use Rattle.lxtr_spec.specs.Image.{slot_from}
 use Rattle.lxtr_image.proofs.joining.slot_from.Statement.{statement}
 use Rattle.lxtr_image.proofs.joining.slot_from.Tie as tie
 
-pub slot-from-spec : {M : Type 1} → statement M
+pub slot_from_spec : {M : Type 1} → statement M
 unfolding slot_from
-slot-from-spec =
+slot_from_spec =
     tie.close
     (tie.spec
     (λ c κs. search rules)

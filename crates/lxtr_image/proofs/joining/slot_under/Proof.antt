@@ -4,9 +4,9 @@ use Rattle.lxtr_spec.specs.Joining.{slot_under}
 use Rattle.lxtr_image.proofs.joining.slot_under.Statement.{statement}
 use Rattle.lxtr_image.proofs.joining.slot_under.Tie as tie
 
-pub slot-under-spec : {M : Type 1} → statement M
+pub slot_under_spec : {M : Type 1} → statement M
 unfolding slot_under
-slot-under-spec =
+slot_under_spec =
     tie.close
     (tie.spec
     (λ c. search rules))

@@ -4,9 +4,9 @@ use Rattle.lxtr_spec.specs.Image.{child}
 use Rattle.lxtr_image.proofs.lists.child_at.Statement.{statement}
 use Rattle.lxtr_image.proofs.lists.child_at.Tie as tie
 
-pub child-at-spec : {M : Type 1} → statement M
+pub child_at_spec : {M : Type 1} → statement M
 unfolding child
-child-at-spec =
+child_at_spec =
     tie.close
     (tie.spec
     (λ c κs. search rules)

@@ -4,9 +4,9 @@ use Rattle.lxtr_spec.specs.Image.{list_width}
 use Rattle.lxtr_image.proofs.lists.list_width.Statement.{statement}
 use Rattle.lxtr_image.proofs.lists.list_width.Tie as tie
 
-pub list-width-spec : {M : Type 1} → statement M
+pub list_width_spec : {M : Type 1} → statement M
 unfolding list_width
-list-width-spec =
+list_width_spec =
     tie.close
     (tie.spec
     (λ c κs. search rules)

@@ -4,9 +4,9 @@ use Rattle.lxtr_spec.specs.Image.{offset}
 use Rattle.lxtr_image.proofs.lists.offset_at.Statement.{statement}
 use Rattle.lxtr_image.proofs.lists.offset_at.Tie as tie
 
-pub offset-at-spec : {M : Type 1} → statement M
+pub offset_at_spec : {M : Type 1} → statement M
 unfolding offset
-offset-at-spec =
+offset_at_spec =
     tie.close
     (tie.spec
     (λ c κs. search rules)

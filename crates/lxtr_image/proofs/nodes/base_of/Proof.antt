@@ -4,9 +4,9 @@ use Rattle.lxtr_spec.specs.Image.{base}
 use Rattle.lxtr_image.proofs.nodes.base_of.Statement.{statement}
 use Rattle.lxtr_image.proofs.nodes.base_of.Tie as tie
 
-pub base-of-spec : {M : Type 1} → statement M
+pub base_of_spec : {M : Type 1} → statement M
 unfolding base
-base-of-spec =
+base_of_spec =
     tie.close
     (tie.spec
     (λ c κs. search rules)

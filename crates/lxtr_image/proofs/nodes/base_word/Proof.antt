@@ -4,9 +4,9 @@ use Rattle.lxtr_spec.specs.Image.{base_word}
 use Rattle.lxtr_image.proofs.nodes.base_word.Statement.{statement}
 use Rattle.lxtr_image.proofs.nodes.base_word.Tie as tie
 
-pub base-word-spec : {M : Type 1} → statement M
+pub base_word_spec : {M : Type 1} → statement M
 unfolding base_word
-base-word-spec =
+base_word_spec =
     tie.close
     (tie.spec
     (λ c. search rules)

@@ -4,9 +4,9 @@ use Rattle.lxtr_spec.specs.Image.{check_word}
 use Rattle.lxtr_image.proofs.nodes.check_word.Statement.{statement}
 use Rattle.lxtr_image.proofs.nodes.check_word.Tie as tie
 
-pub check-word-spec : {M : Type 1} → statement M
+pub check_word_spec : {M : Type 1} → statement M
 unfolding check_word
-check-word-spec =
+check_word_spec =
     tie.close
     (tie.spec
     (λ c. search rules)

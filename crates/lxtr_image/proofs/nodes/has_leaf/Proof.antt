@@ -4,9 +4,9 @@ use Rattle.lxtr_spec.specs.Image.{has_leaf}
 use Rattle.lxtr_image.proofs.nodes.has_leaf.Statement.{statement}
 use Rattle.lxtr_image.proofs.nodes.has_leaf.Tie as tie
 
-pub has-leaf-spec : {M : Type 1} → statement M
+pub has_leaf_spec : {M : Type 1} → statement M
 unfolding has_leaf
-has-leaf-spec =
+has_leaf_spec =
     tie.close
     (tie.spec
     (λ c κs. search rules)

@@ -4,8 +4,8 @@ use Rattle.lxtr_laws.specs.Stepping.{parent_outside, parent_inside}
 use Rattle.lxtr_image.proofs.nodes.has_parent.Statement.{statement}
 use Rattle.lxtr_image.proofs.nodes.has_parent.Tie as tie
 
-pub has-parent-spec : {M : Type 1} → statement M
-has-parent-spec =
+pub has_parent_spec : {M : Type 1} → statement M
+has_parent_spec =
     tie.close
     (tie.spec
     (λ c κs. search rules)

@@ -4,9 +4,9 @@ use Rattle.lxtr_spec.specs.Image.{is_leaf}
 use Rattle.lxtr_image.proofs.nodes.is_leaf.Statement.{statement}
 use Rattle.lxtr_image.proofs.nodes.is_leaf.Tie as tie
 
-pub is-leaf-spec : {M : Type 1} → statement M
+pub is_leaf_spec : {M : Type 1} → statement M
 unfolding is_leaf
-is-leaf-spec =
+is_leaf_spec =
     tie.close
     (tie.spec
     (λ c κs. search rules)

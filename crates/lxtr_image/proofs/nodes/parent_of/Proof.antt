@@ -4,9 +4,9 @@ use Rattle.lxtr_spec.specs.Image.{parent}
 use Rattle.lxtr_image.proofs.nodes.parent_of.Statement.{statement}
 use Rattle.lxtr_image.proofs.nodes.parent_of.Tie as tie
 
-pub parent-of-spec : {M : Type 1} → statement M
+pub parent_of_spec : {M : Type 1} → statement M
 unfolding parent
-parent-of-spec =
+parent_of_spec =
     tie.close
     (tie.spec
     (λ c κs. search rules)

@@ -4,9 +4,9 @@ use Rattle.lxtr_spec.specs.Image.{value_number}
 use Rattle.lxtr_image.proofs.nodes.value_number.Statement.{statement}
 use Rattle.lxtr_image.proofs.nodes.value_number.Tie as tie
 
-pub value-number-spec : {M : Type 1} → statement M
+pub value_number_spec : {M : Type 1} → statement M
 unfolding value_number
-value-number-spec =
+value_number_spec =
     tie.close
     (tie.spec
     (λ c κs. search rules)

@@ -4,9 +4,9 @@ use Rattle.lxtr_spec.specs.Image.{child_count}
 use Rattle.lxtr_image.proofs.sections.child_count.Statement.{statement}
 use Rattle.lxtr_image.proofs.sections.child_count.Tie as tie
 
-pub child-count-spec : {M : Type 1} → statement M
+pub child_count_spec : {M : Type 1} → statement M
 unfolding child_count
-child-count-spec =
+child_count_spec =
     tie.close
     (tie.spec
     (λ c κs. search rules)

@@ -4,9 +4,9 @@ use Rattle.lxtr_spec.specs.Image.{map_length}
 use Rattle.lxtr_image.proofs.sections.map_length.Statement.{statement}
 use Rattle.lxtr_image.proofs.sections.map_length.Tie as tie
 
-pub map-length-spec : {M : Type 1} → statement M
+pub map_length_spec : {M : Type 1} → statement M
 unfolding map_length
-map-length-spec =
+map_length_spec =
     tie.close
     (tie.spec
     (λ c κs. search rules)

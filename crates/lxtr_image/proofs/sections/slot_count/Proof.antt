@@ -4,9 +4,9 @@ use Rattle.lxtr_spec.specs.Image.{slot_count}
 use Rattle.lxtr_image.proofs.sections.slot_count.Statement.{statement}
 use Rattle.lxtr_image.proofs.sections.slot_count.Tie as tie
 
-pub slot-count-spec : {M : Type 1} → statement M
+pub slot_count_spec : {M : Type 1} → statement M
 unfolding slot_count
-slot-count-spec =
+slot_count_spec =
     tie.close
     (tie.spec
     (λ c κs. search rules)

@@ -12,8 +12,8 @@ invariant-loop keys before at m n same₀ same = Comparing keys before at m same
 abbrev decreases-loop : tie.decreases-loop
 decreases-loop keys before at m n same₀ same = m - same
 
-pub comes-before-spec : {M : Type 1} → statement M
-comes-before-spec =
+pub comes_before_spec : {M : Type 1} → statement M
+comes_before_spec =
     tie.close
     (tie.spec
     invariant-loop

@@ -11,9 +11,9 @@ still-whole c κs =
     let d = c.before.before in
     (search rules, whole_key _ 0 0 _ _ d.before.before.before.before.if1.false d.before.before.before.is_key_length.ensures _ d.before.before.if2.false d.before.next-key.ensures d.if3.false)
 
-pub key-refusal-spec : {M : Type 1} → statement M
+pub key_refusal_spec : {M : Type 1} → statement M
 unfolding max_labels
-key-refusal-spec =
+key_refusal_spec =
     tie.close
     (tie.spec
     (λ c. search no_length)

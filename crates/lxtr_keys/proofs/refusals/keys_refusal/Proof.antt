@@ -11,8 +11,8 @@ invariant-loop keys count i₀ before₀ at₀ i before at = RestDecides keys co
 abbrev decreases-loop : tie.decreases-loop
 decreases-loop keys count i₀ before₀ at₀ i before at = count - i
 
-pub keys-refusal-spec : {M : Type 1} → statement M
-keys-refusal-spec =
+pub keys_refusal_spec : {M : Type 1} → statement M
+keys_refusal_spec =
     tie.close
     (tie.spec
     invariant-loop

@@ -5,9 +5,9 @@ use Rattle.lxtr_build_laws.specs.KeyReading.{label_inside}
 use Rattle.lxtr_keys.proofs.refusals.no_scalar_at.Statement.{statement}
 use Rattle.lxtr_keys.proofs.refusals.no_scalar_at.Tie as tie
 
-pub no-scalar-at-spec : {M : Type 1} → statement M
+pub no_scalar_at_spec : {M : Type 1} → statement M
 unfolding no_scalar_at
-no-scalar-at-spec =
+no_scalar_at_spec =
     tie.close
     (tie.spec
     (λ c κs. search label_inside)

@@ -4,8 +4,8 @@ use Rattle.lxtr_keys.specs.KeyRefusals.{first_above, before_whole, later_above}
 use Rattle.lxtr_keys.proofs.refusals.not_above.Statement.{statement}
 use Rattle.lxtr_keys.proofs.refusals.not_above.Tie as tie
 
-pub not-above-spec : {M : Type 1} → statement M
-not-above-spec =
+pub not_above_spec : {M : Type 1} → statement M
+not_above_spec =
     tie.close
     (tie.spec
     (λ c. search first_above)

@@ -13,8 +13,8 @@ invariant-loop keys at len j₀ j = (len ≡ key_length keys at) × NoneSoFar (n
 abbrev decreases-loop : tie.decreases-loop
 decreases-loop keys at len j₀ j = len - j
 
-pub some-no-scalar-spec : {M : Type 1} → statement M
-some-no-scalar-spec =
+pub some_no_scalar_spec : {M : Type 1} → statement M
+some_no_scalar_spec =
     tie.close
     (tie.spec
     invariant-loop

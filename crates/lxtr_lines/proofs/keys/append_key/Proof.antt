@@ -4,8 +4,8 @@ use Rattle.lxtr_lines.specs.KeyLines.{key_put}
 use Rattle.lxtr_lines.proofs.keys.append_key.Statement.{statement}
 use Rattle.lxtr_lines.proofs.keys.append_key.Tie as tie
 
-pub append-key-spec : {M : Type 1} → statement M
-append-key-spec =
+pub append_key_spec : {M : Type 1} → statement M
+append_key_spec =
     tie.close
     (tie.spec
     (λ c κs. search rules)

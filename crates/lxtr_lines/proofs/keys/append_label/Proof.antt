@@ -4,8 +4,8 @@ use Rattle.lxtr_lines.specs.KeyLines.{label_put}
 use Rattle.lxtr_lines.proofs.keys.append_label.Statement.{statement}
 use Rattle.lxtr_lines.proofs.keys.append_label.Tie as tie
 
-pub append-label-spec : {M : Type 1} → statement M
-append-label-spec =
+pub append_label_spec : {M : Type 1} → statement M
+append_label_spec =
     tie.close
     (tie.spec
     (λ c κs. search rules)

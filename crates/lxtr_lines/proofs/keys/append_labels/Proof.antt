@@ -14,8 +14,8 @@ invariant-loop line₀ at labels from count end₀ i₀ line end i = PiecesSoFar
 abbrev decreases-loop : tie.decreases-loop
 decreases-loop line₀ at labels from count end₀ i₀ line end i = count - i
 
-pub append-labels-spec : {M : Type 1} → statement M
-append-labels-spec =
+pub append_labels_spec : {M : Type 1} → statement M
+append_labels_spec =
     tie.close
     (tie.spec
     invariant-loop

@@ -5,8 +5,8 @@ use Rattle.lxtr_lines.specs.KeyLines.{no_labels, some_labels}
 use Rattle.lxtr_lines.proofs.keys.append_spaced.Statement.{statement}
 use Rattle.lxtr_lines.proofs.keys.append_spaced.Tie as tie
 
-pub append-spaced-spec : {M : Type 1} → statement M
-append-spaced-spec =
+pub append_spaced_spec : {M : Type 1} → statement M
+append_spaced_spec =
     tie.close
     (tie.spec
     (λ c κs. search rules)

@@ -14,8 +14,8 @@ invariant-loop line₀ at labels count end₀ i₀ line end i = PiecesSoFar show
 abbrev decreases-loop : tie.decreases-loop
 decreases-loop line₀ at labels count end₀ i₀ line end i = count - i
 
-pub append-text-spec : {M : Type 1} → statement M
-append-text-spec =
+pub append_text_spec : {M : Type 1} → statement M
+append_text_spec =
     tie.close
     (tie.spec
     invariant-loop

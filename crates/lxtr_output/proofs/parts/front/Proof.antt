@@ -6,8 +6,8 @@ use lib.Seq.{length-take-le}
 use Rattle.lxtr_output.proofs.parts.front.Statement.{statement}
 use Rattle.lxtr_output.proofs.parts.front.Tie as tie
 
-pub front-spec : {M : Type 1} → statement M
-front-spec =
+pub front_spec : {M : Type 1} → statement M
+front_spec =
     tie.close
     (tie.spec
     (λ c. sym (length-take-le _ _ (omega arith)))

@@ -6,8 +6,8 @@ use Rattle.lxtr_place.specs.GroupLoops.{below_group, below_started, below_is}
 use Rattle.lxtr_place.proofs.groups.below.Statement.{statement}
 use Rattle.lxtr_place.proofs.groups.below.Tie as tie
 
-pub below-spec : {M : Type 1} → statement M
-below-spec =
+pub below_spec : {M : Type 1} → statement M
+below_spec =
     tie.close
     (tie.spec
     (λ c κs. (search rules, (search rules, search rules)))

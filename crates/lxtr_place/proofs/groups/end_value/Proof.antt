@@ -4,8 +4,8 @@ use Rattle.lxtr_place.specs.GroupLoops.{no_keys, first_starts, first_goes, first
 use Rattle.lxtr_place.proofs.groups.end_value.Statement.{statement}
 use Rattle.lxtr_place.proofs.groups.end_value.Tie as tie
 
-pub end-value-spec : {M : Type 1} → statement M
-end-value-spec =
+pub end_value_spec : {M : Type 1} → statement M
+end_value_spec =
     tie.close
     (tie.spec
     (λ c. search no_keys)

@@ -5,8 +5,8 @@ use Rattle.lxtr_place.specs.GroupLoops.{goes_end, goes_on}
 use Rattle.lxtr_place.proofs.groups.goes_by.Statement.{statement}
 use Rattle.lxtr_place.proofs.groups.goes_by.Tie as tie
 
-pub goes-by-spec : {M : Type 1} → statement M
-goes-by-spec =
+pub goes_by_spec : {M : Type 1} → statement M
+goes_by_spec =
     tie.close
     (tie.spec
     (λ c κs. search rules)

@@ -5,8 +5,8 @@ use Rattle.lxtr_place.specs.GroupLoops.{under_end, under_on}
 use Rattle.lxtr_place.proofs.groups.is_under.Statement.{statement}
 use Rattle.lxtr_place.proofs.groups.is_under.Tie as tie
 
-pub is-under-spec : {M : Type 1} → statement M
-is-under-spec =
+pub is_under_spec : {M : Type 1} → statement M
+is_under_spec =
     tie.close
     (tie.spec
     (λ c κs. search rules)

@@ -12,8 +12,8 @@ invariant-loop keys g x at₀ i₀ at i = Running keys g x at i
 abbrev decreases-loop : tie.decreases-loop
 decreases-loop keys g x at₀ i₀ at i = g.count - i
 
-pub run-of-spec : {M : Type 1} → statement M
-run-of-spec =
+pub run_of_spec : {M : Type 1} → statement M
+run_of_spec =
     tie.close
     (tie.spec
     invariant-loop

@@ -13,8 +13,8 @@ invariant-loop keys starts g x low₀ high₀ low high = Searching keys g x low 
 abbrev decreases-loop : tie.decreases-loop
 decreases-loop keys starts g x low₀ high₀ low high = high - low
 
-pub skip-to-spec : {M : Type 1} → statement M
-skip-to-spec =
+pub skip_to_spec : {M : Type 1} → statement M
+skip_to_spec =
     tie.close
     (tie.spec
     invariant-loop

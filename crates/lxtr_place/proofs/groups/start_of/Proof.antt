@@ -4,8 +4,8 @@ use Rattle.lxtr_place.specs.GroupLoops.{start_sum, start_fits, start_inside, sta
 use Rattle.lxtr_place.proofs.groups.start_of.Statement.{statement}
 use Rattle.lxtr_place.proofs.groups.start_of.Tie as tie
 
-pub start-of-spec : {M : Type 1} → statement M
-start-of-spec =
+pub start_of_spec : {M : Type 1} → statement M
+start_of_spec =
     tie.close
     (tie.spec
     (λ c. search start_sum)

@@ -121,8 +121,8 @@ module _ (t : ℕ) where
       let k = coded (settled l) in
       within (called k).pre.1.0 _ _ _ k.child-codes.ensures.0 k.child-codes.kept.1.1.1.1.1.0 k.child-codes.ensures.1 _ _ (settled l).settle-group.ensures.0 l.before.fit.given.1 k.before.before.if1.left
 
-pub +place-spec : {M : Type 1} → statement M
-+place-spec =
+pub +place_spec : {M : Type 1} → statement M
++place_spec =
     close μ-place λ t. lts.spec (told t) (at t) place.Post Inv μ
     (λ c. (search no_label_left, (entry t c.before).pre.1.1))
     (λ c κs. let p = (entry t c.before.before).pre.1.0 in (p.placeable, (p.tables.rising, omega (arith, p.lent.long))))

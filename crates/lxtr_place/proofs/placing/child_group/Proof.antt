@@ -4,9 +4,9 @@ use Rattle.lxtr_build_laws.specs.CodeTables.{label_by}
 use Rattle.lxtr_place.proofs.placing.child_group.Statement.{statement}
 use Rattle.lxtr_place.proofs.placing.child_group.Tie as tie
 
-pub child-group-spec : {M : Type 1} → statement M
+pub child_group_spec : {M : Type 1} → statement M
 unfolding label_by
-child-group-spec =
+child_group_spec =
     tie.close
     (tie.spec
     (λ c. search rules)

@@ -4,9 +4,9 @@ use Rattle.lxtr_spec.specs.Labels.{max_labels}
 use Rattle.lxtr_place.proofs.placing.place_root.Statement.{statement}
 use Rattle.lxtr_place.proofs.placing.place_root.Tie as tie
 
-pub place-root-spec : {M : Type 1} → statement M
+pub place_root_spec : {M : Type 1} → statement M
 unfolding max_labels
-place-root-spec =
+place_root_spec =
     tie.close
     (tie.spec
     (λ c. search rules)

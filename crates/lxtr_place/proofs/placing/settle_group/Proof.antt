@@ -5,8 +5,8 @@ use Rattle.lxtr_place.specs.SettlingWords.{settle_as}
 use Rattle.lxtr_place.proofs.placing.settle_group.Statement.{statement}
 use Rattle.lxtr_place.proofs.placing.settle_group.Tie as tie
 
-pub settle-group-spec : {M : Type 1} → statement M
-settle-group-spec =
+pub settle_group_spec : {M : Type 1} → statement M
+settle_group_spec =
     tie.close
     (tie.spec
     (λ c κs. (search rules, search rules))

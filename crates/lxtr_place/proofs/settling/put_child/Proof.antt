@@ -6,8 +6,8 @@ use Rattle.lxtr_place.specs.SettlingWords.{child_put, end_put}
 use Rattle.lxtr_place.proofs.settling.put_child.Statement.{statement}
 use Rattle.lxtr_place.proofs.settling.put_child.Tie as tie
 
-pub put-child-spec : {M : Type 1} → statement M
-put-child-spec =
+pub put_child_spec : {M : Type 1} → statement M
+put_child_spec =
     tie.close
     (tie.spec
     (λ c κs. search rules)

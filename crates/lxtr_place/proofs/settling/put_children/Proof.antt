@@ -14,8 +14,8 @@ invariant-loop work₀ p value base codes j₀ work j = StepsSoFar (put_child p 
 abbrev decreases-loop : tie.decreases-loop
 decreases-loop work₀ p value base codes j₀ work j = length codes - j
 
-pub put-children-spec : {M : Type 1} → statement M
-put-children-spec =
+pub put_children_spec : {M : Type 1} → statement M
+put_children_spec =
     tie.close
     (tie.spec
     invariant-loop

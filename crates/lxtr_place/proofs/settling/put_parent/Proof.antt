@@ -4,8 +4,8 @@ use Rattle.lxtr_place.specs.SettlingWords.{parent_none, parent_plain, parent_of_
 use Rattle.lxtr_place.proofs.settling.put_parent.Statement.{statement}
 use Rattle.lxtr_place.proofs.settling.put_parent.Tie as tie
 
-pub put-parent-spec : {M : Type 1} → statement M
-put-parent-spec =
+pub put_parent_spec : {M : Type 1} → statement M
+put_parent_spec =
     tie.close
     (tie.spec
     (λ c. search rules)

@@ -4,8 +4,8 @@ use Rattle.lxtr_place.specs.SettlingWords.{put_both, inside_after}
 use Rattle.lxtr_place.proofs.settling.put_under.Statement.{statement}
 use Rattle.lxtr_place.proofs.settling.put_under.Tie as tie
 
-pub put-under-spec : {M : Type 1} → statement M
-put-under-spec =
+pub put_under_spec : {M : Type 1} → statement M
+put_under_spec =
     tie.close
     (tie.spec
     (λ c κs. search rules)

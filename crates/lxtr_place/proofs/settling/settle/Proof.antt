@@ -4,8 +4,8 @@ use Rattle.lxtr_place.specs.SettlingWords.{settle_none, settle_inside, settle_in
 use Rattle.lxtr_place.proofs.settling.settle.Statement.{statement}
 use Rattle.lxtr_place.proofs.settling.settle.Tie as tie
 
-pub settle-spec : {M : Type 1} → statement M
-settle-spec =
+pub settle_spec : {M : Type 1} → statement M
+settle_spec =
     tie.close
     (tie.spec
     (λ c κs. search rules)

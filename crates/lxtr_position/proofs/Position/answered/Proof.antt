@@ -4,9 +4,9 @@ use Rattle.lxtr_spec.specs.Positions.{move_answer}
 use Rattle.lxtr_position.proofs.Position.answered.Statement.{statement}
 use Rattle.lxtr_position.proofs.Position.answered.Tie as tie
 
-pub answered-spec : {M : Type 1} → statement M
+pub answered_spec : {M : Type 1} → statement M
 unfolding move_answer
-answered-spec =
+answered_spec =
     tie.close
     (tie.spec
     (λ c. refl))

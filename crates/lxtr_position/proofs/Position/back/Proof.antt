@@ -5,9 +5,9 @@ use Rattle.lxtr_position.specs.Moves.{header_allows, header_long, inside_below, 
 use Rattle.lxtr_position.proofs.Position.back.Statement.{statement}
 use Rattle.lxtr_position.proofs.Position.back.Tie as tie
 
-pub back-spec : {M : Type 1} → statement M
+pub back_spec : {M : Type 1} → statement M
 unfolding back_of
-back-spec =
+back_spec =
     tie.close
     (tie.spec
     (λ c κs. search rules)

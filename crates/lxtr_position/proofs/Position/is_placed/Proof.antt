@@ -4,8 +4,8 @@ use Rattle.lxtr_position.specs.Moves.{placed_is}
 use Rattle.lxtr_position.proofs.Position.is_placed.Statement.{statement}
 use Rattle.lxtr_position.proofs.Position.is_placed.Tie as tie
 
-pub is-placed-spec : {M : Type 1} → statement M
-is-placed-spec =
+pub is_placed_spec : {M : Type 1} → statement M
+is_placed_spec =
     tie.close
     (tie.spec
     (λ c κs. search rules)

@@ -4,8 +4,8 @@ use Rattle.lxtr_position.specs.Moves.{header_allows, header_long, reached_slot_l
 use Rattle.lxtr_position.proofs.Position.lookup.Statement.{statement}
 use Rattle.lxtr_position.proofs.Position.lookup.Tie as tie
 
-pub lookup-spec : {M : Type 1} → statement M
-lookup-spec =
+pub lookup_spec : {M : Type 1} → statement M
+lookup_spec =
     tie.close
     (tie.spec
     (λ c κs. search rules)

@@ -5,9 +5,9 @@ use Rattle.lxtr_position.specs.Moves.{no_more_labels, label_counts, walked_fits,
 use Rattle.lxtr_position.proofs.Position.pushed.Statement.{statement}
 use Rattle.lxtr_position.proofs.Position.pushed.Tie as tie
 
-pub pushed-spec : {M : Type 1} → statement M
+pub pushed_spec : {M : Type 1} → statement M
 unfolding max_typed
-pushed-spec =
+pushed_spec =
     tie.close
     (tie.spec
     (λ c. search no_more_labels)

@@ -4,8 +4,8 @@ use Rattle.lxtr_position.specs.Moves.{reached_outside, reached_failed, reached_a
 use Rattle.lxtr_position.proofs.Position.reached_slot.Statement.{statement}
 use Rattle.lxtr_position.proofs.Position.reached_slot.Tie as tie
 
-pub reached-slot-spec : {M : Type 1} → statement M
-reached-slot-spec =
+pub reached_slot_spec : {M : Type 1} → statement M
+reached_slot_spec =
     tie.close
     (tie.spec
     (λ c κs. search rules)

@@ -5,9 +5,9 @@ use Rattle.lxtr_position.specs.Moves.{label_after_failed, label_beyond, label_st
 use Rattle.lxtr_position.proofs.Position.slot_by.Statement.{statement}
 use Rattle.lxtr_position.proofs.Position.slot_by.Tie as tie
 
-pub slot-by-spec : {M : Type 1} → statement M
+pub slot_by_spec : {M : Type 1} → statement M
 unfolding max_labels
-slot-by-spec =
+slot_by_spec =
     tie.close
     (tie.spec
     (λ c. search label_after_failed)

@@ -4,8 +4,8 @@ use Rattle.lxtr_position.specs.Moves.{no_labels, counted_back, walked_back}
 use Rattle.lxtr_position.proofs.Position.taken_back.Statement.{statement}
 use Rattle.lxtr_position.proofs.Position.taken_back.Tie as tie
 
-pub taken-back-spec : {M : Type 1} → statement M
-taken-back-spec =
+pub taken_back_spec : {M : Type 1} → statement M
+taken_back_spec =
     tie.close
     (tie.spec
     (λ c. search no_labels)

@@ -5,9 +5,9 @@ use Rattle.lxtr_spec.specs.HostNumbers.{position_number}
 use Rattle.lxtr_position.proofs.numbers.position_number.Statement.{statement}
 use Rattle.lxtr_position.proofs.numbers.position_number.Tie as tie
 
-pub position-number-spec : {M : Type 1} → statement M
+pub position_number_spec : {M : Type 1} → statement M
 unfolding position_number
-position-number-spec =
+position_number_spec =
     tie.close
     (tie.spec
     (λ c. search rules)

@@ -5,9 +5,9 @@ use Rattle.lxtr_spec.specs.HostNumbers.{position_of}
 use Rattle.lxtr_position.proofs.numbers.position_of.Statement.{statement}
 use Rattle.lxtr_position.proofs.numbers.position_of.Tie as tie
 
-pub position-of-spec : {M : Type 1} → statement M
+pub position_of_spec : {M : Type 1} → statement M
 unfolding position_of
-position-of-spec =
+position_of_spec =
     tie.close
     (tie.spec
     (λ c. search rules)

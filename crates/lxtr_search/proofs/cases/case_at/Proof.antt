@@ -6,9 +6,9 @@ use Rattle.lxtr_search.specs.CaseReturns.{case_nowhere, case_told}
 use Rattle.lxtr_search.proofs.cases.case_at.Statement.{statement}
 use Rattle.lxtr_search.proofs.cases.case_at.Tie as tie
 
-pub case-at-spec : {M : Type 1} → statement M
+pub case_at_spec : {M : Type 1} → statement M
 unfolding case_of
-case-at-spec =
+case_at_spec =
     tie.close
     (tie.spec
     (λ c. search rules)

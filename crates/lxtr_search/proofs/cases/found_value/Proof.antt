@@ -5,9 +5,9 @@ use Rattle.lxtr_search.specs.CaseReturns.{value_told}
 use Rattle.lxtr_search.proofs.cases.found_value.Statement.{statement}
 use Rattle.lxtr_search.proofs.cases.found_value.Tie as tie
 
-pub found-value-spec : {M : Type 1} → statement M
+pub found_value_spec : {M : Type 1} → statement M
 unfolding case_value
-found-value-spec =
+found_value_spec =
     tie.close
     (tie.spec
     (λ c. search rules)

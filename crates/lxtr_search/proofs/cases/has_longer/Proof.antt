@@ -5,9 +5,9 @@ use Rattle.lxtr_search.specs.CaseReturns.{longer_told}
 use Rattle.lxtr_search.proofs.cases.has_longer.Statement.{statement}
 use Rattle.lxtr_search.proofs.cases.has_longer.Tie as tie
 
-pub has-longer-spec : {M : Type 1} → statement M
+pub has_longer_spec : {M : Type 1} → statement M
 unfolding case_longer
-has-longer-spec =
+has_longer_spec =
     tie.close
     (tie.spec
     (λ c. search rules)

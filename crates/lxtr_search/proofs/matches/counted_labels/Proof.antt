@@ -5,9 +5,9 @@ use Rattle.lxtr_search.specs.Matches.{counted_all, counted_most}
 use Rattle.lxtr_search.proofs.matches.counted_labels.Statement.{statement}
 use Rattle.lxtr_search.proofs.matches.counted_labels.Tie as tie
 
-pub counted-labels-spec : {M : Type 1} → statement M
+pub counted_labels_spec : {M : Type 1} → statement M
 unfolding max_labels
-counted-labels-spec =
+counted_labels_spec =
     tie.close
     (tie.spec
     (λ c κs. search rules)

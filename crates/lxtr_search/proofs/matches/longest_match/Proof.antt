@@ -17,8 +17,8 @@ invariant-loop image query labels longest₀ n₀ i₀ longest n i = (labels ≡
 abbrev decreases-loop : tie.decreases-loop
 decreases-loop image query labels longest₀ n₀ i₀ longest n i = labels - i
 
-pub longest-match-spec : {M : Type 1} → statement M
-longest-match-spec =
+pub longest_match_spec : {M : Type 1} → statement M
+longest_match_spec =
     tie.close
     (tie.spec
     invariant-loop

@@ -4,9 +4,9 @@ use Rattle.lxtr_spec.specs.Labels.{max_labels}
 use Rattle.lxtr_search.proofs.matches.put_match.Statement.{statement}
 use Rattle.lxtr_search.proofs.matches.put_match.Tie as tie
 
-pub put-match-spec : {M : Type 1} → statement M
+pub put_match_spec : {M : Type 1} → statement M
 unfolding max_labels
-put-match-spec =
+put_match_spec =
     tie.close
     (tie.spec
     (λ c. search rules)

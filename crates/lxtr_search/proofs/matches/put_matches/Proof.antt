@@ -20,8 +20,8 @@ invariant-loop image query lengths₀ values₀ labels count₀ n₀ i₀ length
 abbrev decreases-loop : tie.decreases-loop
 decreases-loop image query lengths₀ values₀ labels count₀ n₀ i₀ lengths values count n i = labels - i
 
-pub put-matches-spec : {M : Type 1} → statement M
-put-matches-spec =
+pub put_matches_spec : {M : Type 1} → statement M
+put_matches_spec =
     tie.close
     (tie.spec
     invariant-loop

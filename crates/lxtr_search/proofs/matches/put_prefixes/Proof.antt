@@ -21,9 +21,9 @@ zeros k = rw (sub-zero length_count)
 unrefused : (k n : ℕ) (ks vs : List ℕ) (p : Prefixes) → k ≡ 0 → filled n ks vs ≡ p → ◌≡◌ {A = Prefixes} (record { refusal = k; count = n; lengths = ks; values = vs }) p
 unrefused k n ks vs p z e = rw z e
 
-pub put-prefixes-spec : {M : Type 1} → statement M
+pub put_prefixes_spec : {M : Type 1} → statement M
 unfolding max_labels
-put-prefixes-spec =
+put_prefixes_spec =
     tie.close
     (tie.spec
     (λ c κs. search rules)

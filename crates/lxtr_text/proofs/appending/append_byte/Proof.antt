@@ -4,8 +4,8 @@ use Rattle.lxtr_text.specs.Appends.{append_one, append_full}
 use Rattle.lxtr_text.proofs.appending.append_byte.Statement.{statement}
 use Rattle.lxtr_text.proofs.appending.append_byte.Tie as tie
 
-pub append-byte-spec : {M : Type 1} → statement M
-append-byte-spec =
+pub append_byte_spec : {M : Type 1} → statement M
+append_byte_spec =
     tie.close
     (tie.spec
     (λ c. search rules)

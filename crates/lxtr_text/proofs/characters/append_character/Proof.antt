@@ -4,8 +4,8 @@ use Rattle.lxtr_text.specs.Characters.{one_byte}
 use Rattle.lxtr_text.proofs.characters.append_character.Statement.{statement}
 use Rattle.lxtr_text.proofs.characters.append_character.Tie as tie
 
-pub append-character-spec : {M : Type 1} → statement M
-append-character-spec =
+pub append_character_spec : {M : Type 1} → statement M
+append_character_spec =
     tie.close
     (tie.spec
     (λ c. search rules)

@@ -4,8 +4,8 @@ use Rattle.lxtr_text.specs.Characters.{four_bytes}
 use Rattle.lxtr_text.proofs.characters.append_four.Statement.{statement}
 use Rattle.lxtr_text.proofs.characters.append_four.Tie as tie
 
-pub append-four-spec : {M : Type 1} → statement M
-append-four-spec =
+pub append_four_spec : {M : Type 1} → statement M
+append_four_spec =
     tie.close
     (tie.spec
     (λ c. search rules)

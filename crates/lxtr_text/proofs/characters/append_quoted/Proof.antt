@@ -4,8 +4,8 @@ use Rattle.lxtr_text.specs.Characters.{mark_small, escaped, unescaped}
 use Rattle.lxtr_text.proofs.characters.append_quoted.Statement.{statement}
 use Rattle.lxtr_text.proofs.characters.append_quoted.Tie as tie
 
-pub append-quoted-spec : {M : Type 1} → statement M
-append-quoted-spec =
+pub append_quoted_spec : {M : Type 1} → statement M
+append_quoted_spec =
     tie.close
     (tie.spec
     (λ c κs. search rules)

@@ -4,8 +4,8 @@ use Rattle.lxtr_text.specs.Characters.{scalar_small, no_scalar, control, plain}
 use Rattle.lxtr_text.proofs.characters.append_shown.Statement.{statement}
 use Rattle.lxtr_text.proofs.characters.append_shown.Tie as tie
 
-pub append-shown-spec : {M : Type 1} → statement M
-append-shown-spec =
+pub append_shown_spec : {M : Type 1} → statement M
+append_shown_spec =
     tie.close
     (tie.spec
     (λ c κs. search rules)

@@ -4,8 +4,8 @@ use Rattle.lxtr_text.specs.Characters.{two_tails}
 use Rattle.lxtr_text.proofs.characters.append_tails.Statement.{statement}
 use Rattle.lxtr_text.proofs.characters.append_tails.Tie as tie
 
-pub append-tails-spec : {M : Type 1} → statement M
-append-tails-spec =
+pub append_tails_spec : {M : Type 1} → statement M
+append_tails_spec =
     tie.close
     (tie.spec
     (λ c κs. search rules)

@@ -4,8 +4,8 @@ use Rattle.lxtr_text.specs.Characters.{three_bytes}
 use Rattle.lxtr_text.proofs.characters.append_three.Statement.{statement}
 use Rattle.lxtr_text.proofs.characters.append_three.Tie as tie
 
-pub append-three-spec : {M : Type 1} → statement M
-append-three-spec =
+pub append_three_spec : {M : Type 1} → statement M
+append_three_spec =
     tie.close
     (tie.spec
     (λ c. search rules)

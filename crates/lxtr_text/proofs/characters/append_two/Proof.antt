@@ -4,8 +4,8 @@ use Rattle.lxtr_text.specs.Characters.{two_bytes}
 use Rattle.lxtr_text.proofs.characters.append_two.Statement.{statement}
 use Rattle.lxtr_text.proofs.characters.append_two.Tie as tie
 
-pub append-two-spec : {M : Type 1} → statement M
-append-two-spec =
+pub append_two_spec : {M : Type 1} → statement M
+append_two_spec =
     tie.close
     (tie.spec
     (λ c. search rules)

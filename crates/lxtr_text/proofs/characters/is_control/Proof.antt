@@ -4,6 +4,6 @@ use Rattle.lxtr_command_spec.specs.Forms.{is_control}
 use Rattle.lxtr_text.proofs.characters.is_control.Statement.{statement}
 use Rattle.lxtr_text.proofs.characters.is_control.Tie as tie
 
-pub is-control-spec : {M : Type 1} → statement M
+pub is_control_spec : {M : Type 1} → statement M
 unfolding is_control
-is-control-spec = tie.close (tie.spec (λ c. refl))
+is_control_spec = tie.close (tie.spec (λ c. refl))

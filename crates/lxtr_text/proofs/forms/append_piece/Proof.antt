@@ -4,8 +4,8 @@ use Rattle.lxtr_text.specs.FormLoops.{percent, dollar, commercial_at, itself}
 use Rattle.lxtr_text.proofs.forms.append_piece.Statement.{statement}
 use Rattle.lxtr_text.proofs.forms.append_piece.Tie as tie
 
-pub append-piece-spec : {M : Type 1} → statement M
-append-piece-spec =
+pub append_piece_spec : {M : Type 1} → statement M
+append_piece_spec =
     tie.close
     (tie.spec
     (λ c κs. search rules)

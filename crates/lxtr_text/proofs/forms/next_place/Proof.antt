@@ -4,8 +4,8 @@ use Rattle.lxtr_text.specs.FormLoops.{no_more, one_taken, none_taken}
 use Rattle.lxtr_text.proofs.forms.next_place.Statement.{statement}
 use Rattle.lxtr_text.proofs.forms.next_place.Tie as tie
 
-pub next-place-spec : {M : Type 1} → statement M
-next-place-spec =
+pub next_place_spec : {M : Type 1} → statement M
+next_place_spec =
     tie.close
     (tie.spec
     (λ c. search no_more)

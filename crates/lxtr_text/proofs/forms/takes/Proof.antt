@@ -4,6 +4,6 @@ use Rattle.lxtr_text.specs.FormLoops.{three_tests}
 use Rattle.lxtr_text.proofs.forms.takes.Statement.{statement}
 use Rattle.lxtr_text.proofs.forms.takes.Tie as tie
 
-pub takes-spec : {M : Type 1} → statement M
+pub takes_spec : {M : Type 1} → statement M
 unfolding takes
-takes-spec = tie.close (tie.spec (λ c. search three_tests))
+takes_spec = tie.close (tie.spec (λ c. search three_tests))

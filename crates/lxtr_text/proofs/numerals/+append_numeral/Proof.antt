@@ -27,8 +27,8 @@ below t = and 1 kinds.ps (falls 1 kinds.ps ◌<◌ μ t) append-numeral.Pre
 abbrev told : ℕ → lts.Claims
 told t = (digit-of-reads.Asked, digit-of-reads.Learnt, append-byte-reads.Asked, append-byte-reads.Learnt, below t, append-numeral.Post)
 
-pub +append-numeral-spec : {M : Type 1} → statement M
-+append-numeral-spec =
+pub +append_numeral_spec : {M : Type 1} → statement M
++append_numeral_spec =
     close μ λ t. lts.spec (told t) (at t) append-numeral.Post
     (λ c. search no_digits)
     (λ c κs. omega arith)

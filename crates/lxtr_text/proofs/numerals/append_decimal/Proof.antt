@@ -4,9 +4,9 @@ use Rattle.lxtr_spec.specs.Lines.{decimal}
 use Rattle.lxtr_text.proofs.numerals.append_decimal.Statement.{statement}
 use Rattle.lxtr_text.proofs.numerals.append_decimal.Tie as tie
 
-pub append-decimal-spec : {M : Type 1} → statement M
+pub append_decimal_spec : {M : Type 1} → statement M
 unfolding decimal
-append-decimal-spec =
+append_decimal_spec =
     tie.close
     (tie.spec
     (λ c κs. search rules)

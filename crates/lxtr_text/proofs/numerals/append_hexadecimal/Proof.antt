@@ -4,9 +4,9 @@ use Rattle.lxtr_spec.specs.Lines.{hexadecimal}
 use Rattle.lxtr_text.proofs.numerals.append_hexadecimal.Statement.{statement}
 use Rattle.lxtr_text.proofs.numerals.append_hexadecimal.Tie as tie
 
-pub append-hexadecimal-spec : {M : Type 1} → statement M
+pub append_hexadecimal_spec : {M : Type 1} → statement M
 unfolding hexadecimal
-append-hexadecimal-spec =
+append_hexadecimal_spec =
     tie.close
     (tie.spec
     (λ c κs. search rules)

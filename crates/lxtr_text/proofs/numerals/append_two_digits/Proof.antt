@@ -5,8 +5,8 @@ use Rattle.lxtr_text.specs.Numerals.{two_digits_lem}
 use Rattle.lxtr_text.proofs.numerals.append_two_digits.Statement.{statement}
 use Rattle.lxtr_text.proofs.numerals.append_two_digits.Tie as tie
 
-pub append-two-digits-spec : {M : Type 1} → statement M
-append-two-digits-spec =
+pub append_two_digits_spec : {M : Type 1} → statement M
+append_two_digits_spec =
     tie.close
     (tie.spec
     (λ c κs. omega arith)

@@ -6,9 +6,9 @@ use Rattle.lxtr_spec.specs.Lines.{digit_of}
 use Rattle.lxtr_text.proofs.numerals.digit_of.Statement.{statement}
 use Rattle.lxtr_text.proofs.numerals.digit_of.Tie as tie
 
-pub digit-of-spec : {M : Type 1} → statement M
+pub digit_of_spec : {M : Type 1} → statement M
 unfolding digit_of
-digit-of-spec =
+digit_of_spec =
     tie.close
     (tie.spec
     (λ c. search rules)

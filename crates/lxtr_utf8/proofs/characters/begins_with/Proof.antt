@@ -6,8 +6,8 @@ use Rattle.lxtr_utf8.specs.Fronts.{begins_one, begins_two, begins_three, begins_
 use Rattle.lxtr_utf8.proofs.characters.begins_with.Statement.{statement}
 use Rattle.lxtr_utf8.proofs.characters.begins_with.Tie as tie
 
-pub begins-with-spec : {M : Type 1} → statement M
-begins-with-spec =
+pub begins_with_spec : {M : Type 1} → statement M
+begins_with_spec =
     tie.close
     (tie.spec
     (λ c κs. search rules)

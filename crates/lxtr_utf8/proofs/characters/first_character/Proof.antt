@@ -4,8 +4,8 @@ use Rattle.lxtr_utf8.specs.Fronts.{front_none, front_some}
 use Rattle.lxtr_utf8.proofs.characters.first_character.Statement.{statement}
 use Rattle.lxtr_utf8.proofs.characters.first_character.Tie as tie
 
-pub first-character-spec : {M : Type 1} → statement M
-first-character-spec =
+pub first_character_spec : {M : Type 1} → statement M
+first_character_spec =
     tie.close
     (tie.spec
     (λ c κs. search rules)

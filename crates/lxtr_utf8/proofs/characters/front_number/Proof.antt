@@ -4,8 +4,8 @@ use Rattle.lxtr_utf8.specs.Fronts.{number_one, number_none, number_two, number_t
 use Rattle.lxtr_utf8.proofs.characters.front_number.Statement.{statement}
 use Rattle.lxtr_utf8.proofs.characters.front_number.Tie as tie
 
-pub front-number-spec : {M : Type 1} → statement M
-front-number-spec =
+pub front_number_spec : {M : Type 1} → statement M
+front_number_spec =
     tie.close
     (tie.spec
     (λ c κs. search rules)

@@ -4,8 +4,8 @@ use Rattle.lxtr_words.specs.TextLines.{word_none, word_return, word_all}
 use Rattle.lxtr_words.proofs.lines.word_end.Statement.{statement}
 use Rattle.lxtr_words.proofs.lines.word_end.Tie as tie
 
-pub word-end-spec : {M : Type 1} → statement M
-word-end-spec =
+pub word_end_spec : {M : Type 1} → statement M
+word_end_spec =
     tie.close
     (tie.spec
     (λ c. search word_none)

@@ -12,8 +12,8 @@ invariant-loop text line₀ at₀ line at = NoneBefore text line at
 abbrev decreases-loop : tie.decreases-loop
 decreases-loop text line₀ at₀ line at = length text + 1 - at
 
-pub first-problem-spec : {M : Type 1} → statement M
-first-problem-spec =
+pub first_problem_spec : {M : Type 1} → statement M
+first_problem_spec =
     tie.close
     (tie.spec
     invariant-loop

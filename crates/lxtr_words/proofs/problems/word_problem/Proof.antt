@@ -5,9 +5,9 @@ use Rattle.lxtr_spec.specs.Labels.{max_labels}
 use Rattle.lxtr_words.proofs.problems.word_problem.Statement.{statement}
 use Rattle.lxtr_words.proofs.problems.word_problem.Tie as tie
 
-pub word-problem-spec : {M : Type 1} → statement M
+pub word_problem_spec : {M : Type 1} → statement M
 unfolding max_labels
-word-problem-spec =
+word_problem_spec =
     tie.close
     (tie.spec
     (λ c κs. search rules)

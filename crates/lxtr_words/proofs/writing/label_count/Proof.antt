@@ -4,8 +4,8 @@ use Rattle.lxtr_words.specs.KeyWriting.{count_is, count_small}
 use Rattle.lxtr_words.proofs.writing.label_count.Statement.{statement}
 use Rattle.lxtr_words.proofs.writing.label_count.Tie as tie
 
-pub label-count-spec : {M : Type 1} → statement M
-label-count-spec =
+pub label_count_spec : {M : Type 1} → statement M
+label_count_spec =
     tie.close
     (tie.spec
     (λ c κs. search rules)

@@ -12,8 +12,8 @@ invariant-loop text starts total₀ i₀ total i = Summed text starts total i
 abbrev decreases-loop : tie.decreases-loop
 decreases-loop text starts total₀ i₀ total i = length starts - i
 
-pub list-length-spec : {M : Type 1} → statement M
-list-length-spec =
+pub list_length_spec : {M : Type 1} → statement M
+list_length_spec =
     tie.close
     (tie.spec
     invariant-loop

@@ -4,8 +4,8 @@ use Rattle.lxtr_words.specs.KeyWriting.{length_byte, key_put}
 use Rattle.lxtr_words.proofs.writing.put_key.Statement.{statement}
 use Rattle.lxtr_words.proofs.writing.put_key.Tie as tie
 
-pub put-key-spec : {M : Type 1} → statement M
-put-key-spec =
+pub put_key_spec : {M : Type 1} → statement M
+put_key_spec =
     tie.close
     (tie.spec
     (λ c. search rules)

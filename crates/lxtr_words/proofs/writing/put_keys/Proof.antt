@@ -12,8 +12,8 @@ invariant-loop text starts out₀ at₀ i₀ out at i = Writing text starts out�
 abbrev decreases-loop : tie.decreases-loop
 decreases-loop text starts out₀ at₀ i₀ out at i = length starts - i
 
-pub put-keys-spec : {M : Type 1} → statement M
-put-keys-spec =
+pub put_keys_spec : {M : Type 1} → statement M
+put_keys_spec =
     tie.close
     (tie.spec
     invariant-loop

@@ -4,8 +4,8 @@ use Rattle.lxtr_words.specs.KeyWriting.{labels_count, labels_put}
 use Rattle.lxtr_words.proofs.writing.put_labels.Statement.{statement}
 use Rattle.lxtr_words.proofs.writing.put_labels.Tie as tie
 
-pub put-labels-spec : {M : Type 1} → statement M
-put-labels-spec =
+pub put_labels_spec : {M : Type 1} → statement M
+put_labels_spec =
     tie.close
     (tie.spec
     (λ c κs. search rules)

@@ -4,8 +4,8 @@ use Rattle.lxtr_words.specs.KeyWriting.{head_room, keys_room, list_put}
 use Rattle.lxtr_words.proofs.writing.put_list.Statement.{statement}
 use Rattle.lxtr_words.proofs.writing.put_list.Tie as tie
 
-pub put-list-spec : {M : Type 1} → statement M
-put-list-spec =
+pub put_list_spec : {M : Type 1} → statement M
+put_list_spec =
     tie.close
     (tie.spec
     (λ c. search rules)

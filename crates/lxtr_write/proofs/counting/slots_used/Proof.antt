@@ -13,8 +13,8 @@ invariant-loop work slots n₀ n = (2 ≤ n) × (n ≤ slots) × (slots_used wor
 abbrev decreases-loop : tie.decreases-loop
 decreases-loop work slots n₀ n = n
 
-pub slots-used-spec : {M : Type 1} → statement M
-slots-used-spec =
+pub slots_used_spec : {M : Type 1} → statement M
+slots_used_spec =
     tie.close
     (tie.spec
     invariant-loop

@@ -13,8 +13,8 @@ invariant-loop work slots taken₀ s₀ taken s = CountSoFar (is_taken_from2 wor
 abbrev decreases-loop : tie.decreases-loop
 decreases-loop work slots taken₀ s₀ taken s = slots - s
 
-pub taken-count-spec : {M : Type 1} → statement M
-taken-count-spec =
+pub taken_count_spec : {M : Type 1} → statement M
+taken_count_spec =
     tie.close
     (tie.spec
     invariant-loop

@@ -13,8 +13,8 @@ invariant-loop out₀ at work slots last links p start e₀ t₀ out e t = Follo
 abbrev decreases-loop : tie.decreases-loop
 decreases-loop out₀ at work slots last links p start e₀ t₀ out e t = ahead (base_at work p) last t
 
-pub put-children-spec : {M : Type 1} → statement M
-put-children-spec =
+pub put_children_spec : {M : Type 1} → statement M
+put_children_spec =
     tie.close
     (tie.spec
     invariant-loop

@@ -12,8 +12,8 @@ invariant-loop out₀ at work slots last links children-at e₀ p₀ out e p = L
 abbrev decreases-loop : tie.decreases-loop
 decreases-loop out₀ at work slots last links children-at e₀ p₀ out e p = slots - p
 
-pub put-linked-spec : {M : Type 1} → statement M
-put-linked-spec =
+pub put_linked_spec : {M : Type 1} → statement M
+put_linked_spec =
     tie.close
     (tie.spec
     invariant-loop

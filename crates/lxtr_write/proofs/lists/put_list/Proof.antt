@@ -4,8 +4,8 @@ use Rattle.lxtr_write.specs.ListWriting.{list_slot, list_skipped, list_room, lis
 use Rattle.lxtr_write.proofs.lists.put_list.Statement.{statement}
 use Rattle.lxtr_write.proofs.lists.put_list.Tie as tie
 
-pub put-list-spec : {M : Type 1} → statement M
-put-list-spec =
+pub put_list_spec : {M : Type 1} → statement M
+put_list_spec =
     tie.close
     (tie.spec
     (λ c. search rules)

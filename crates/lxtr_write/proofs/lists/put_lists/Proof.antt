@@ -4,8 +4,8 @@ use mathlib.Core.Path.{refl}
 use Rattle.lxtr_write.proofs.lists.put_lists.Statement.{statement}
 use Rattle.lxtr_write.proofs.lists.put_lists.Tie as tie
 
-pub put-lists-spec : {M : Type 1} → statement M
-put-lists-spec =
+pub put_lists_spec : {M : Type 1} → statement M
+put_lists_spec =
     tie.close
     (tie.spec
     (λ c κs. (search rules, refl))

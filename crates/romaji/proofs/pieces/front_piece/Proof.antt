@@ -4,8 +4,8 @@ use Rattle.romaji.specs.NextPieces.{front_waits, front_goes}
 use Rattle.romaji.proofs.pieces.front_piece.Statement.{statement}
 use Rattle.romaji.proofs.pieces.front_piece.Tie as tie
 
-pub front-piece-spec : {M : Type 1} → statement M
-front-piece-spec =
+pub front_piece_spec : {M : Type 1} → statement M
+front_piece_spec =
     tie.close
     (tie.spec
     (λ c κs. search rules)

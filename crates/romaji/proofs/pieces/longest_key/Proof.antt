@@ -4,8 +4,8 @@ use Rattle.romaji.specs.NextPieces.{looked_none, looked_some}
 use Rattle.romaji.proofs.pieces.longest_key.Statement.{statement}
 use Rattle.romaji.proofs.pieces.longest_key.Tie as tie
 
-pub longest-key-spec : {M : Type 1} → statement M
-longest-key-spec =
+pub longest_key_spec : {M : Type 1} → statement M
+longest_key_spec =
     tie.close
     (tie.spec
     (λ c κs. search rules)

@@ -9,9 +9,9 @@ use Rattle.romaji.specs.NextPieces.{looks_within, looks_whole, next_found}
 use Rattle.romaji.proofs.pieces.next_piece.Statement.{statement}
 use Rattle.romaji.proofs.pieces.next_piece.Tie as tie
 
-pub next-piece-spec : {M : Type 1} → statement M
+pub next_piece_spec : {M : Type 1} → statement M
 unfolding max_labels max_kept
-next-piece-spec =
+next_piece_spec =
     tie.close
     (tie.spec
     (λ c κs. search rules)

@@ -4,8 +4,8 @@ use Rattle.romaji.specs.NextPieces.{text_count, byte_count}
 use Rattle.romaji.proofs.pieces.out_count.Statement.{statement}
 use Rattle.romaji.proofs.pieces.out_count.Tie as tie
 
-pub out-count-spec : {M : Type 1} → statement M
-out-count-spec =
+pub out_count_spec : {M : Type 1} → statement M
+out_count_spec =
     tie.close
     (tie.spec
     (λ c. search rules)

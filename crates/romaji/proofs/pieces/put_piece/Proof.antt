@@ -4,8 +4,8 @@ use Rattle.romaji.specs.NextPieces.{text_room, text_after, text_fits, text_put, 
 use Rattle.romaji.proofs.pieces.put_piece.Statement.{statement}
 use Rattle.romaji.proofs.pieces.put_piece.Tie as tie
 
-pub put-piece-spec : {M : Type 1} → statement M
-put-piece-spec =
+pub put_piece_spec : {M : Type 1} → statement M
+put_piece_spec =
     tie.close
     (tie.spec
     (λ c. search rules)

@@ -12,8 +12,8 @@ invariant-loop text room₀ at count i₀ room i = TextPut text room₀ at count
 abbrev decreases-loop : tie.decreases-loop
 decreases-loop text room₀ at count i₀ room i = count - i
 
-pub put-text-spec : {M : Type 1} → statement M
-put-text-spec =
+pub put_text_spec : {M : Type 1} → statement M
+put_text_spec =
     tie.close
     (tie.spec
     invariant-loop

@@ -4,8 +4,8 @@ use Rattle.romaji.specs.NextPieces.{never_waits, longer_waits}
 use Rattle.romaji.proofs.pieces.waits.Statement.{statement}
 use Rattle.romaji.proofs.pieces.waits.Tie as tie
 
-pub waits-spec : {M : Type 1} → statement M
-waits-spec =
+pub waits_spec : {M : Type 1} → statement M
+waits_spec =
     tie.close
     (tie.spec
     (λ c. search never_waits)

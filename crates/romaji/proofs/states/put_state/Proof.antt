@@ -14,9 +14,9 @@ invariant-loop state bytes₀ count kept i₀ bytes i = KeptPut state.kept bytes
 abbrev decreases-loop : tie.decreases-loop
 decreases-loop state bytes₀ count kept i₀ bytes i = count - i
 
-pub put-state-spec : {M : Type 1} → statement M
+pub put_state_spec : {M : Type 1} → statement M
 unfolding max_kept max_labels
-put-state-spec =
+put_state_spec =
     tie.close
     (tie.spec
     invariant-loop

@@ -7,9 +7,9 @@ use Rattle.romaji.specs.StateBytes.{read_nothing, read_few, read_kept}
 use Rattle.romaji.proofs.states.read_state.Statement.{statement}
 use Rattle.romaji.proofs.states.read_state.Tie as tie
 
-pub read-state-spec : {M : Type 1} → statement M
+pub read_state_spec : {M : Type 1} → statement M
 unfolding max_kept max_labels
-read-state-spec =
+read_state_spec =
     tie.close
     (tie.spec
     (λ c κs. search rules)

@@ -12,8 +12,8 @@ invariant-loop kana count places₀ at₀ i₀ places at i = PlacesPut kana plac
 abbrev decreases-loop : tie.decreases-loop
 decreases-loop kana count places₀ at₀ i₀ places at i = count - i
 
-pub put-places-spec : {M : Type 1} → statement M
-put-places-spec =
+pub put_places_spec : {M : Type 1} → statement M
+put_places_spec =
     tie.close
     (tie.spec
     invariant-loop

@@ -4,8 +4,8 @@ use Rattle.romaji.specs.Tables.{short_of, short_none}
 use Rattle.romaji.proofs.tables.table_short.Statement.{statement}
 use Rattle.romaji.proofs.tables.table_short.Tie as tie
 
-pub table-short-spec : {M : Type 1} → statement M
-table-short-spec =
+pub table_short_spec : {M : Type 1} → statement M
+table_short_spec =
     tie.close
     (tie.spec
     (λ c. search rules)

@@ -14,8 +14,8 @@ invariant-loop kana places v value i₀ at₀ i at = Begins kana i at × (i ≤ 
 abbrev decreases-loop : tie.decreases-loop
 decreases-loop kana places v value i₀ at₀ i at = value - i
 
-pub text-at-spec : {M : Type 1} → statement M
-text-at-spec =
+pub text_at_spec : {M : Type 1} → statement M
+text_at_spec =
     tie.close
     (tie.spec
     invariant-loop

@@ -4,8 +4,8 @@ use Rattle.romaji.specs.Tables.{no_bytes, bytes_start, bytes_end, the_bytes}
 use Rattle.romaji.proofs.tables.text_bytes.Statement.{statement}
 use Rattle.romaji.proofs.tables.text_bytes.Tie as tie
 
-pub text-bytes-spec : {M : Type 1} → statement M
-text-bytes-spec =
+pub text_bytes_spec : {M : Type 1} → statement M
+text_bytes_spec =
     tie.close
     (tie.spec
     (λ c κs. search rules)

@@ -4,8 +4,8 @@ use Rattle.romaji.specs.Tables.{cut_past, cut_here}
 use Rattle.romaji.proofs.tables.text_cut.Statement.{statement}
 use Rattle.romaji.proofs.tables.text_cut.Tie as tie
 
-pub text-cut-spec : {M : Type 1} → statement M
-text-cut-spec =
+pub text_cut_spec : {M : Type 1} → statement M
+text_cut_spec =
     tie.close
     (tie.spec
     (λ c κs. search rules)

@@ -4,8 +4,8 @@ use Rattle.romaji.specs.Tables.{end_none, end_past, end_within}
 use Rattle.romaji.proofs.tables.text_end.Statement.{statement}
 use Rattle.romaji.proofs.tables.text_end.Tie as tie
 
-pub text-end-spec : {M : Type 1} → statement M
-text-end-spec =
+pub text_end_spec : {M : Type 1} → statement M
+text_end_spec =
     tie.close
     (tie.spec
     (λ c. search end_none)

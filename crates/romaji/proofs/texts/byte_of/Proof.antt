@@ -4,8 +4,8 @@ use Rattle.romaji.specs.Texts.{kept_byte, typed_place, typed_byte}
 use Rattle.romaji.proofs.texts.byte_of.Statement.{statement}
 use Rattle.romaji.proofs.texts.byte_of.Tie as tie
 
-pub byte-of-spec : {M : Type 1} → statement M
-byte-of-spec =
+pub byte_of_spec : {M : Type 1} → statement M
+byte_of_spec =
     tie.close
     (tie.spec
     (λ c. search rules)

@@ -4,8 +4,8 @@ use Rattle.romaji.specs.Texts.{label_put}
 use Rattle.romaji.proofs.texts.put_label.Statement.{statement}
 use Rattle.romaji.proofs.texts.put_label.Tie as tie
 
-pub put-label-spec : {M : Type 1} → statement M
-put-label-spec =
+pub put_label_spec : {M : Type 1} → statement M
+put_label_spec =
     tie.close
     (tie.spec
     (λ c. search rules)

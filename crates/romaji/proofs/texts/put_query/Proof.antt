@@ -12,8 +12,8 @@ invariant-loop kept typed at count query₀ i₀ query i = QueryPut kept typed a
 abbrev decreases-loop : tie.decreases-loop
 decreases-loop kept typed at count query₀ i₀ query i = count - i
 
-pub put-query-spec : {M : Type 1} → statement M
-put-query-spec =
+pub put_query_spec : {M : Type 1} → statement M
+put_query_spec =
     tie.close
     (tie.spec
     invariant-loop

@@ -14,9 +14,9 @@ invariant-loop kept typed at count bytes₀ i₀ bytes i = RestPut kept typed at
 abbrev decreases-loop : tie.decreases-loop
 decreases-loop kept typed at count bytes₀ i₀ bytes i = count - i
 
-pub rest-kept-spec : {M : Type 1} → statement M
+pub rest_kept_spec : {M : Type 1} → statement M
 unfolding max_kept max_labels
-rest-kept-spec =
+rest_kept_spec =
     tie.close
     (tie.spec
     invariant-loop

@@ -6,8 +6,8 @@ use lib.Seq.{length-take-le}
 use Rattle.run_examples.proofs.answers.build_front.Statement.{statement}
 use Rattle.run_examples.proofs.answers.build_front.Tie as tie
 
-pub build-front-spec : {M : Type 1} → statement M
-build-front-spec =
+pub build_front_spec : {M : Type 1} → statement M
+build_front_spec =
     tie.close
     (tie.spec
     (λ c κs. search rules)

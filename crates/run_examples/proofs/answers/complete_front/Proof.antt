@@ -6,8 +6,8 @@ use lib.Seq.{length-take-le}
 use Rattle.run_examples.proofs.answers.complete_front.Statement.{statement}
 use Rattle.run_examples.proofs.answers.complete_front.Tie as tie
 
-pub complete-front-spec : {M : Type 1} → statement M
-complete-front-spec =
+pub complete_front_spec : {M : Type 1} → statement M
+complete_front_spec =
     tie.close
     (tie.spec
     (λ c. search rules)

@@ -11,9 +11,9 @@ invariant-loop count lengths values i₀ i = Unit {0}
 abbrev decreases-loop : tie.decreases-loop
 decreases-loop count lengths values i₀ i = length_count - i
 
-pub say-places-spec : {M : Type 1} → statement M
+pub say_places_spec : {M : Type 1} → statement M
 unfolding max_labels
-say-places-spec =
+say_places_spec =
     tie.close
     (tie.spec
     invariant-loop

@@ -10,8 +10,8 @@ invariant-loop out from same₀ i₀ same i = Unit {0}
 abbrev decreases-loop : tie.decreases-loop
 decreases-loop out from same₀ i₀ same i = 147480 - i
 
-pub is-left-spec : {M : Type 1} → statement M
-is-left-spec =
+pub is_left_spec : {M : Type 1} → statement M
+is_left_spec =
     tie.close
     (tie.spec
     invariant-loop

@@ -10,8 +10,8 @@ invariant-loop work count word same₀ i₀ same i = Unit {0}
 abbrev decreases-loop : tie.decreases-loop
 decreases-loop work count word same₀ i₀ same i = 16384 - i
 
-pub words-are-spec : {M : Type 1} → statement M
-words-are-spec =
+pub words_are_spec : {M : Type 1} → statement M
+words_are_spec =
     tie.close
     (tie.spec
     invariant-loop
