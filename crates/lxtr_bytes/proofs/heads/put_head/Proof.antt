@@ -14,5 +14,5 @@ put_head_spec =
     (λ c. search rules)
     (λ c. search rules)
     (λ c κs. simp length-set (omega arith))
-    (λ c. let a = c.before.before.before.before.before.args in c.before.before.put-be32.auto.0 ∙ length-set a.room.now a.at 1)
-    (λ c. byte_before _ _ _ _ _ (omega arith) c.before.before.put-be32.ensures))
+    (λ c. let a = c.before.before.before.before.before.args in c.before.before.put_be32.auto.room ∙ length-set a.room.now a.at 1)
+    (λ c. byte_before _ _ _ _ _ (omega arith) c.before.before.put_be32.ensures))

@@ -5,10 +5,10 @@ use Rattle.lxtr_image.specs.Blocks.{block_size, SumSoFar, sum_start, sum_next, s
 use Rattle.lxtr_image.proofs.code_map.block_sum.Statement.{statement}
 use Rattle.lxtr_image.proofs.code_map.block_sum.Tie as tie
 
-abbrev invariant-loop : tie.invariant-loop
+abbrev invariant-loop : tie.invariant-loop-k
 invariant-loop image label i sum₀ k₀ sum k = SumSoFar image label i k sum
 
-abbrev decreases-loop : tie.decreases-loop
+abbrev decreases-loop : tie.decreases-loop-k
 decreases-loop image label i sum₀ k₀ sum k = block_size - k
 
 pub block_sum_spec : {M : Type 1} → statement M

@@ -7,10 +7,10 @@ use Rattle.lxtr_image.specs.CodeSearch.{code_start, code_hit, code_miss, code_en
 use Rattle.lxtr_image.proofs.code_map.code_from.Statement.{statement}
 use Rattle.lxtr_image.proofs.code_map.code_from.Tie as tie
 
-abbrev invariant-loop : tie.invariant-loop
+abbrev invariant-loop : tie.invariant-loop-i
 invariant-loop image label from count i₀ i = (count ≡ label_count image) × (i ≤ count) × (code_from image label (label_count image - from) from ≡ code_from image label (count - i) i)
 
-abbrev decreases-loop : tie.decreases-loop
+abbrev decreases-loop : tie.decreases-loop-i
 decreases-loop image label from count i₀ i = count - i
 
 pub code_from_spec : {M : Type 1} → statement M

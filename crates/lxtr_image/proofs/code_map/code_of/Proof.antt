@@ -9,10 +9,10 @@ use Rattle.lxtr_image.specs.Blocks.{block_found, block_passed}
 use Rattle.lxtr_image.proofs.code_map.code_of.Statement.{statement}
 use Rattle.lxtr_image.proofs.code_map.code_of.Tie as tie
 
-abbrev invariant-loop : tie.invariant-loop
+abbrev invariant-loop : tie.invariant-loop-i
 invariant-loop image label count i₀ i = (count ≡ label_count image) × (i ≤ count) × (code_of image label ≡ code_from image label (count - i) i)
 
-abbrev decreases-loop : tie.decreases-loop
+abbrev decreases-loop : tie.decreases-loop-i
 decreases-loop image label count i₀ i = count - i
 
 pub code_of_spec : {M : Type 1} → statement M

@@ -11,4 +11,4 @@ map_version_spec =
     (tie.spec
     (λ c κs. search rules)
     (λ c κs. search rules)
-    (λ c. rw (c.version-at.ensures, c.before.map_at.ensures)))
+    (λ c. rw (c.version_at.ensures, c.before.map_at.ensures)))

@@ -15,4 +15,4 @@ word_under_spec =
     (λ c. search rules)
     (λ c. search under_none)
     (λ c κs. search rules)
-    (λ c. under_some _ _ _ _ refl _ _ refl c.reordered.ensures c.reordered.type-inv))
+    (λ c. under_some _ _ _ _ refl _ _ refl c.reordered.ensures c.reordered.type_inv))

@@ -11,4 +11,4 @@ code_to_spec =
     (tie.spec
     (λ c κs. search rules)
     (λ c κs. search rules)
-    (λ c. rw (c.code-under.ensures, c.before.base_of.ensures)))
+    (λ c. rw (c.code_under.ensures, c.before.base_of.ensures)))

@@ -11,4 +11,4 @@ slot_from_spec =
     (tie.spec
     (λ c κs. search rules)
     (λ c κs. search rules)
-    (λ c. rw (c.slot-under.ensures, c.before.base_of.ensures)))
+    (λ c. rw (c.slot_under.ensures, c.before.base_of.ensures)))

@@ -13,4 +13,4 @@ child_at_spec =
     (λ c. search rules)
     (λ c. search rules)
     (λ c κs. search rules)
-    (λ c. rw (c.le32-at.ensures, c.before.children-at.ensures)))
+    (λ c. rw (c.le32_at.ensures, c.before.children_at.ensures)))

@@ -10,4 +10,4 @@ parent_of_spec =
     tie.close
     (tie.spec
     (λ c κs. search rules)
-    (λ c. rw c.is_check_word.ensures))
+    (λ c. rw c.check_word.ensures))

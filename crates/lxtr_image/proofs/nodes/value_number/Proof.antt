@@ -10,4 +10,4 @@ value_number_spec =
     tie.close
     (tie.spec
     (λ c κs. search rules)
-    (λ c. rw c.is_base_word.ensures))
+    (λ c. rw c.base_word.ensures))
