@@ -7,10 +7,10 @@ use Rattle.lxtr_check_labels.specs.Chains.{Looking, chain_there, look_start, loo
 use Rattle.lxtr_check_labels.proofs.listed_before.Statement.{statement}
 use Rattle.lxtr_check_labels.proofs.listed_before.Tie as tie
 
-abbrev invariant-loop : tie.invariant-loop
+abbrev invariant-loop : tie.invariant-loop-entry
 invariant-loop image i last before label entry₀ entry = (label ≡ label_at image i) × Looking image i entry
 
-abbrev decreases-loop : tie.decreases-loop
+abbrev decreases-loop : tie.decreases-loop-entry
 decreases-loop image i last before label entry₀ entry = entry
 
 pub listed_before_spec : {M : Type 1} → statement M

@@ -12,4 +12,4 @@ childless_spec =
     (λ c κs. search rules)
     (λ c κs. search rules)
     (λ c κs. search rules)
-    (λ c. rw (← c.before.before.is-used-from-2.ensures, ← c.before.is_IsLeaf.ensures, ← c.list-width.ensures)))
+    (λ c. rw (← c.before.before.is_used_from_2.ensures, ← c.before.is_leaf.ensures, ← c.list_width.ensures)))

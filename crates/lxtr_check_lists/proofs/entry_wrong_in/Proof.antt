@@ -13,4 +13,4 @@ entry_wrong_in_spec =
     (λ c. search rules)
     (λ c κs. search rules)
     (λ c κs. search rules)
-    (λ c. rw (← c.before.before.offset_at.ensures, ← c.before.entry-wrong.ensures, ← c.code-not-above.ensures)))
+    (λ c. rw (← c.before.before.offset_at.ensures, ← c.before.entry_wrong.ensures, ← c.code_not_above.ensures)))

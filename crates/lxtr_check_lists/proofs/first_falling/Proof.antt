@@ -8,10 +8,10 @@ use Rattle.lxtr_laws.specs.Scans.{NoneSoFar, scan_start, scan_first, scan_next, 
 use Rattle.lxtr_check_lists.proofs.first_falling.Statement.{statement}
 use Rattle.lxtr_check_lists.proofs.first_falling.Tie as tie
 
-abbrev invariant-loop : tie.invariant-loop
+abbrev invariant-loop : tie.invariant-loop-p
 invariant-loop image slots p₀ p = (slots ≡ slot_count image) × NoneSoFar (offset_falls image) p slots
 
-abbrev decreases-loop : tie.decreases-loop
+abbrev decreases-loop : tie.decreases-loop-p
 decreases-loop image slots p₀ p = slots - p
 
 pub first_falling_spec : {M : Type 1} → statement M

@@ -9,10 +9,10 @@ use Rattle.lxtr_laws.specs.Scans.{NoneSoFar, scan_start, scan_first, scan_next, 
 use Rattle.lxtr_check_lists.proofs.first_wrong_entry.Statement.{statement}
 use Rattle.lxtr_check_lists.proofs.first_wrong_entry.Tie as tie
 
-abbrev invariant-loop : tie.invariant-loop
+abbrev invariant-loop : tie.invariant-loop-i
 invariant-loop image p width i₀ i = (width ≡ list_width image p) × NoneSoFar (entry_wrong_in image p) i width
 
-abbrev decreases-loop : tie.decreases-loop
+abbrev decreases-loop : tie.decreases-loop-i
 decreases-loop image p width i₀ i = width - i
 
 pub first_wrong_entry_spec : {M : Type 1} → statement M

@@ -8,10 +8,10 @@ use Rattle.lxtr_laws.specs.Scans.{NoneSoFar, scan_start, scan_first, scan_next, 
 use Rattle.lxtr_check_lists.proofs.first_wrong_list.Statement.{statement}
 use Rattle.lxtr_check_lists.proofs.first_wrong_list.Tie as tie
 
-abbrev invariant-loop : tie.invariant-loop
+abbrev invariant-loop : tie.invariant-loop-p
 invariant-loop image slots p₀ p = (slots ≡ slot_count image) × NoneSoFar (entries_wrong image) p slots
 
-abbrev decreases-loop : tie.decreases-loop
+abbrev decreases-loop : tie.decreases-loop-p
 decreases-loop image slots p₀ p = slots - p
 
 pub first_wrong_list_spec : {M : Type 1} → statement M

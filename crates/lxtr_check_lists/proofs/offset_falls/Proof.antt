@@ -12,4 +12,4 @@ offset_falls_spec =
     (λ c. search rules)
     (λ c κs. search rules)
     (λ c κs. search rules)
-    (λ c. rw (← c.before.offset_at.ensures, ← c.offset-at2.ensures)))
+    (λ c. rw (← c.before.offset_at.ensures, ← c.offset_at-2.ensures)))

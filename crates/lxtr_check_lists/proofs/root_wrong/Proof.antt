@@ -11,4 +11,4 @@ root_wrong_spec =
     (tie.spec
     (λ c κs. search rules)
     (λ c κs. search rules)
-    (λ c. rw (← c.before.list-width.ensures, ← c.base_of.ensures)))
+    (λ c. rw (← c.before.list_width.ensures, ← c.base_of.ensures)))

@@ -8,10 +8,10 @@ use Rattle.lxtr_check_lists.specs.ListTests.{AnySoFar, any_start, any_next, any_
 use Rattle.lxtr_check_lists.proofs.some_childless.Statement.{statement}
 use Rattle.lxtr_check_lists.proofs.some_childless.Tie as tie
 
-abbrev invariant-loop : tie.invariant-loop
+abbrev invariant-loop : tie.invariant-loop-s
 invariant-loop image slots found₀ s₀ found s = (slots ≡ slot_count image) × AnySoFar (childless image) s slots found
 
-abbrev decreases-loop : tie.decreases-loop
+abbrev decreases-loop : tie.decreases-loop-s
 decreases-loop image slots found₀ s₀ found s = slots - s
 
 pub some_childless_spec : {M : Type 1} → statement M

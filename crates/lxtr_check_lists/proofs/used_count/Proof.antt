@@ -9,10 +9,10 @@ use Rattle.lxtr_laws.specs.Tallies.{count_fits}
 use Rattle.lxtr_check_lists.proofs.used_count.Statement.{statement}
 use Rattle.lxtr_check_lists.proofs.used_count.Tie as tie
 
-abbrev invariant-loop : tie.invariant-loop
+abbrev invariant-loop : tie.invariant-loop-s
 invariant-loop image slots used₀ s₀ used s = (slots ≡ slot_count image) × CountSoFar (is_used_from2 image) s slots used
 
-abbrev decreases-loop : tie.decreases-loop
+abbrev decreases-loop : tie.decreases-loop-s
 decreases-loop image slots used₀ s₀ used s = slots - s
 
 pub used_count_spec : {M : Type 1} → statement M

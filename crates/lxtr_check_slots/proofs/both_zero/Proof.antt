@@ -11,4 +11,4 @@ both_zero_spec =
     (tie.spec
     (λ c κs. search rules)
     (λ c κs. search rules)
-    (λ c. rw (← c.before.is_base_word.ensures, ← c.is_check_word.ensures)))
+    (λ c. rw (← c.before.base_word.ensures, ← c.check_word.ensures)))

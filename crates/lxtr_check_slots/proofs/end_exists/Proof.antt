@@ -12,4 +12,4 @@ end_exists_spec =
     (λ c κs. search rules)
     (λ c κs. search rules)
     (λ c κs. search rules)
-    (λ c. rw (← c.before.before.is_IsLeaf.ensures, ← c.before.base_of.ensures, ← c.has_parent_lem.ensures)))
+    (λ c. rw (← c.before.before.is_leaf.ensures, ← c.before.base_of.ensures, ← c.has_parent.ensures)))

@@ -11,4 +11,4 @@ flag_wrong_spec =
     (tie.spec
     (λ c κs. search rules)
     (λ c κs. search rules)
-    (λ c. rw (← c.before.has-leaf.ensures, ← c.end_exists_lem.ensures)))
+    (λ c. rw (← c.before.has_leaf.ensures, ← c.end_exists.ensures)))

@@ -10,4 +10,4 @@ is_used_spec =
     tie.close
     (tie.spec
     (λ c κs. search rules)
-    (λ c. rw (← c.is-used-from-2.ensures)))
+    (λ c. rw (← c.is_used_from_2.ensures)))

@@ -22,5 +22,5 @@ header_refusal_spec =
     (λ c. search (chain, goes_on, le-ltb))
     (λ c κs. search rules)
     (λ c. search (chain, goes_on, le-ltb))
-    (λ c κs. sized_by _ (omega arith) c.before.sizes-wrong.ensures c.if5.false)
+    (λ c κs. sized_by _ (omega arith) c.before.sizes_wrong.ensures c.if-sizes_wrong.false)
     (λ c. search (chain, goes_on, le-ltb)))

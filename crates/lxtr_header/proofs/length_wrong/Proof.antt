@@ -13,4 +13,4 @@ length_wrong_spec =
     (λ c κs. search rules)
     (λ c. search rules)
     (λ c. search rules)
-    (λ c. rw (c.before.map_at.ensures, c.is_map_length.ensures)))
+    (λ c. rw (c.before.map_at.ensures, c.map_length.ensures)))

@@ -12,10 +12,10 @@ map_wrong_spec =
     (tie.spec
     (λ c κs. search rules)
     (λ c. search rules)
-    (λ c. rw (← c.before.is_map_length.ensures, lt-ltb _ _ c.if1.true))
+    (λ c. rw (← c.before.map_length-size.ensures, lt-ltb _ _ c.if-size-lt-HEAD_LENGTH.true))
     (λ c κs. search rules)
     (λ c. search rules)
     (λ c κs. search rules)
     (λ c. search rules)
     (λ c. search rules)
-    (λ c. rw (← c.before.before.before.is_map_length.ensures, le-ltb _ _ c.before.before.if1.false, c.before.label_count_lem.ensures, c.is_map_version.ensures)))
+    (λ c. rw (← c.before.before.before.map_length-size.ensures, le-ltb _ _ c.before.before.if-size-lt-HEAD_LENGTH.false, c.before.label_count-labels.ensures, c.map_version.ensures)))

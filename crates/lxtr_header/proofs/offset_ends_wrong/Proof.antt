@@ -13,4 +13,4 @@ offset_ends_wrong_spec =
     (λ c κs. search rules)
     (λ c κs. search rules)
     (λ c κs. search rules)
-    (λ c. rw (c.before.before.before.offset_at.ensures, c.before.offset-at2.ensures, c.before.before.slot-count.ensures, c.child-count.ensures)))
+    (λ c. rw (c.before.before.before.offset_at.ensures, c.before.offset_at-2.ensures, c.before.before.slot_count.ensures, c.child_count.ensures)))

@@ -14,5 +14,5 @@ sizes_wrong_spec =
     (λ c. search rules)
     (λ c κs. search rules)
     (λ c. search rules)
-    (λ c. rw (← c.before.before.slot-count.ensures, lt-ltb _ _ c.if1.true))
-    (λ c. rw (← c.before.before.slot-count.ensures, ← c.before.child-count.ensures, le-ltb _ _ c.if1.false)))
+    (λ c. rw (← c.before.before.slot_count-slots.ensures, lt-ltb _ _ c.if-slots-lt-MIN_SLOTS.true))
+    (λ c. rw (← c.before.before.slot_count-slots.ensures, ← c.before.child_count-children.ensures, le-ltb _ _ c.if-slots-lt-MIN_SLOTS.false)))

@@ -12,6 +12,6 @@ next_key_spec =
     (tie.spec
     (λ c. search rules)
     (λ c κs. search rules)
-    (λ c. let s = c.before.before in omega (arith, c.is_key_length.ensures, c.before.shared-slice-known.given s.args.at, s.requires, s.well-formed.0.1))
-    (λ c. let s = c.before.before in omega (arith, c.is_key_length.ensures, c.before.shared-slice-known.given s.args.at, s.requires, s.well-formed.0.1))
-    (λ c. rw c.is_key_length.ensures))
+    (λ c. let s = c.before.before in omega (arith, c.key_length.ensures, c.before.shared_slice_known-1.given s.args.at, s.requires, s.well_formed.0.1))
+    (λ c. let s = c.before.before in omega (arith, c.key_length.ensures, c.before.shared_slice_known-1.given s.args.at, s.requires, s.well_formed.0.1))
+    (λ c. rw c.key_length.ensures))

@@ -22,5 +22,5 @@ put_header_spec =
     let third = fourth.before.before.before.before in
     let second = third.before.before.before.before in
     let first = second.before.before.before.before in
-    header_put _ _ _ _ _ _ _ _ _ _ (search rules) first.put-magic.ensures second.put-le32.ensures third.put-le322.ensures
-    fourth.put-le323.ensures fifth.put-le324.ensures sixth.put-le325.ensures))
+    header_put _ _ _ _ _ _ _ _ _ _ (search rules) first.put_magic.ensures second.put_le32.ensures third.put_le32-2.ensures
+    fourth.put_le32-3.ensures fifth.put_le32-4.ensures sixth.put_le32-5.ensures))

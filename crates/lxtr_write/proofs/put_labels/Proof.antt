@@ -11,10 +11,10 @@ use Rattle.lxtr_write.specs.SectionWriting.{label_next, labels_end}
 use Rattle.lxtr_write.proofs.put_labels.Statement.{statement}
 use Rattle.lxtr_write.proofs.put_labels.Tie as tie
 
-abbrev invariant-loop : tie.invariant-loop
+abbrev invariant-loop : tie.invariant-loop-j
 invariant-loop out₀ at labels order j₀ out j = (j ≤ length order) × (length out ≡ length out₀) × WordsIn be_words out₀ (picked labels order) at j out
 
-abbrev decreases-loop : tie.decreases-loop
+abbrev decreases-loop : tie.decreases-loop-j
 decreases-loop out₀ at labels order j₀ out j = length order - j
 
 pub put_labels_spec : {M : Type 1} → statement M

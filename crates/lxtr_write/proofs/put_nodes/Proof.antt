@@ -11,10 +11,10 @@ use Rattle.lxtr_write.specs.SectionWriting.{nodes_next, nodes_end}
 use Rattle.lxtr_write.proofs.put_nodes.Statement.{statement}
 use Rattle.lxtr_write.proofs.put_nodes.Tie as tie
 
-abbrev invariant-loop : tie.invariant-loop
+abbrev invariant-loop : tie.invariant-loop-i
 invariant-loop out₀ work slots words i₀ out i = (words ≡ 2 * slots) × (i ≤ words) × (length out ≡ length out₀) × WordsIn le_words out₀ work nodes_at i out
 
-abbrev decreases-loop : tie.decreases-loop
+abbrev decreases-loop : tie.decreases-loop-i
 decreases-loop out₀ work slots words i₀ out i = words - i
 
 pub put_nodes_spec : {M : Type 1} → statement M

@@ -7,10 +7,10 @@ use Rattle.lxtr_codes.specs.LabelCounting.{KeyCounting, key_start, key_inside, k
 use Rattle.lxtr_codes.proofs.counts.count_key.Statement.{statement}
 use Rattle.lxtr_codes.proofs.counts.count_key.Tie as tie
 
-abbrev invariant-loop : tie.invariant-loop
+abbrev invariant-loop : tie.invariant-loop-j
 invariant-loop keys at labels guesses counts₀ len j₀ counts j = KeyCounting (key_at keys at) labels counts₀ counts j
 
-abbrev decreases-loop : tie.decreases-loop
+abbrev decreases-loop : tie.decreases-loop-j
 decreases-loop keys at labels guesses counts₀ len j₀ counts j = len - j
 
 pub count_key_spec : {M : Type 1} → statement M

@@ -8,10 +8,10 @@ use Rattle.lxtr_codes.specs.LabelCounting.{Counting, counting_start, counting_ab
 use Rattle.lxtr_codes.proofs.counts.count_keys.Statement.{statement}
 use Rattle.lxtr_codes.proofs.counts.count_keys.Tie as tie
 
-abbrev invariant-loop : tie.invariant-loop
+abbrev invariant-loop : tie.invariant-loop-i
 invariant-loop keys labels guesses counts₀ count at₀ i₀ counts at i = (length counts ≡ length counts₀) × Counting keys count labels counts at i
 
-abbrev decreases-loop : tie.decreases-loop
+abbrev decreases-loop : tie.decreases-loop-i
 decreases-loop keys labels guesses counts₀ count at₀ i₀ counts at i = count - i
 
 pub count_keys_spec : {M : Type 1} → statement M

@@ -6,10 +6,10 @@ use Rattle.lxtr_fit.specs.Fitting.{BasesSoFar, bases_start, bases_next, bases_no
 use Rattle.lxtr_fit.proofs.fitting.bases_in.Statement.{statement}
 use Rattle.lxtr_fit.proofs.fitting.bases_in.Tie as tie
 
-abbrev invariant-loop : tie.invariant-loop
+abbrev invariant-loop : tie.invariant-loop-j
 invariant-loop free block codes bases₀ j₀ bases j = BasesSoFar free codes block bases j
 
-abbrev decreases-loop : tie.decreases-loop
+abbrev decreases-loop : tie.decreases-loop-j
 decreases-loop free block codes bases₀ j₀ bases j = length codes - j
 
 pub bases_in_spec : {M : Type 1} → statement M

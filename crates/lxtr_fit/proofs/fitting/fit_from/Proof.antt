@@ -9,10 +9,10 @@ use Rattle.lxtr_fit.specs.Fitting.{NoBaseSoFar, blocks_start, blocks_found, bloc
 use Rattle.lxtr_fit.proofs.fitting.fit_from.Statement.{statement}
 use Rattle.lxtr_fit.proofs.fitting.fit_from.Tie as tie
 
-abbrev invariant-loop : tie.invariant-loop
+abbrev invariant-loop : tie.invariant-loop-block
 invariant-loop free first codes block₀ block = NoBaseSoFar free codes first block
 
-abbrev decreases-loop : tie.decreases-loop
+abbrev decreases-loop : tie.decreases-loop-block
 decreases-loop free first codes block₀ block = base_count / word_bits - block
 
 pub fit_from_spec : {M : Type 1} → statement M

@@ -6,10 +6,10 @@ use Rattle.lxtr_fit.specs.MapLoops.{SetSoFar, setting_start, setting_inside, set
 use Rattle.lxtr_fit.proofs.free_map.mark_free.Statement.{statement}
 use Rattle.lxtr_fit.proofs.free_map.mark_free.Tie as tie
 
-abbrev invariant-loop : tie.invariant-loop
+abbrev invariant-loop : tie.invariant-loop-i
 invariant-loop work slots free₀ i₀ free i = SetSoFar slots free i
 
-abbrev decreases-loop : tie.decreases-loop
+abbrev decreases-loop : tie.decreases-loop-i
 decreases-loop work slots free₀ i₀ free i = map_words - i
 
 pub mark_free_spec : {M : Type 1} → statement M

@@ -8,10 +8,10 @@ use Rattle.lxtr_fit.specs.MapLoops.{taking_inside, taking_next}
 use Rattle.lxtr_fit.proofs.free_map.take_under.Statement.{statement}
 use Rattle.lxtr_fit.proofs.free_map.take_under.Tie as tie
 
-abbrev invariant-loop : tie.invariant-loop
+abbrev invariant-loop : tie.invariant-loop-j
 invariant-loop free₀ base codes j₀ free j = StepsSoFar (taken_by base) codes free₀ free j
 
-abbrev decreases-loop : tie.decreases-loop
+abbrev decreases-loop : tie.decreases-loop-j
 decreases-loop free₀ base codes j₀ free j = length codes - j
 
 pub take_under_spec : {M : Type 1} → statement M

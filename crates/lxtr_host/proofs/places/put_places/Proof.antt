@@ -8,11 +8,11 @@ use Rattle.lxtr_host.specs.PlaceWords.{WordsIn, words_start, words_end, value_ro
 use Rattle.lxtr_host.proofs.places.put_places.Statement.{statement}
 use Rattle.lxtr_host.proofs.places.put_places.Tie as tie
 
-abbrev invariant-loop : tie.invariant-loop
+abbrev invariant-loop : tie.invariant-loop-i
 invariant-loop lengths values places₀ count pairs i₀ places i =
     (count ≡ min (2 * length_count) (length places₀)) × (pairs ≡ count / 2) × WordsIn lengths values places₀ places (2 * i)
 
-abbrev decreases-loop : tie.decreases-loop
+abbrev decreases-loop : tie.decreases-loop-i
 decreases-loop lengths values places₀ count pairs i₀ places i = pairs - i
 
 pub put_places_spec : {M : Type 1} → statement M

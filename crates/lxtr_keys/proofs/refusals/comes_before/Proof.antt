@@ -6,10 +6,10 @@ use Rattle.lxtr_keys.specs.KeyRefusals.{Comparing, compare_start, compare_end, c
 use Rattle.lxtr_keys.proofs.refusals.comes_before.Statement.{statement}
 use Rattle.lxtr_keys.proofs.refusals.comes_before.Tie as tie
 
-abbrev invariant-loop : tie.invariant-loop
+abbrev invariant-loop : tie.invariant-loop-same
 invariant-loop keys before at m n same₀ same = Comparing keys before at m same
 
-abbrev decreases-loop : tie.decreases-loop
+abbrev decreases-loop : tie.decreases-loop-same
 decreases-loop keys before at m n same₀ same = m - same
 
 pub comes_before_spec : {M : Type 1} → statement M

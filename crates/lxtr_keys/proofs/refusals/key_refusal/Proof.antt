@@ -5,11 +5,11 @@ use Rattle.lxtr_keys.specs.KeyRefusals.{no_length, too_long, cut_short, whole_ke
 use Rattle.lxtr_keys.proofs.refusals.key_refusal.Statement.{statement}
 use Rattle.lxtr_keys.proofs.refusals.key_refusal.Tie as tie
 
-still-whole : tie.Need-not-above-requires
+still-whole : tie.Need-not_above-requires
 unfolding max_labels
 still-whole c κs =
     let d = c.before.before in
-    (search rules, whole_key _ 0 0 _ _ d.before.before.before.before.if1.false d.before.before.before.is_key_length.ensures _ d.before.before.if2.false d.before.next-key.ensures d.if3.false)
+    (search rules, whole_key _ 0 0 _ _ d.before.before.before.before.if-keys-at.false d.before.before.before.key_length.ensures _ d.before.before.if-key_length-gt-MAX_LABELS.false d.before.next_key.ensures d.if-keys-next_key.false)
 
 pub key_refusal_spec : {M : Type 1} → statement M
 unfolding max_labels

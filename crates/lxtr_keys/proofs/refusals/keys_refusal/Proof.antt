@@ -5,10 +5,10 @@ use Rattle.lxtr_keys.specs.KeyRefusals.{RestDecides, keys_start, key_refused, ke
 use Rattle.lxtr_keys.proofs.refusals.keys_refusal.Statement.{statement}
 use Rattle.lxtr_keys.proofs.refusals.keys_refusal.Tie as tie
 
-abbrev invariant-loop : tie.invariant-loop
+abbrev invariant-loop : tie.invariant-loop-i
 invariant-loop keys count i₀ before₀ at₀ i before at = RestDecides keys count i before at
 
-abbrev decreases-loop : tie.decreases-loop
+abbrev decreases-loop : tie.decreases-loop-i
 decreases-loop keys count i₀ before₀ at₀ i before at = count - i
 
 pub keys_refusal_spec : {M : Type 1} → statement M

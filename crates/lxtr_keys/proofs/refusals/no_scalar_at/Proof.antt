@@ -12,4 +12,4 @@ no_scalar_at_spec =
     (tie.spec
     (λ c κs. search label_inside)
     (λ c κs. search rules)
-    (λ c. rw (c.is-scalar.ensures, c.before.is_key_label.ensures)))
+    (λ c. rw (c.is_scalar.ensures, c.before.key_label.ensures)))

@@ -7,10 +7,10 @@ use Rattle.lxtr_laws.specs.Scans.{NoneSoFar, scan_start, scan_hit, scan_next, sc
 use Rattle.lxtr_keys.proofs.refusals.some_no_scalar.Statement.{statement}
 use Rattle.lxtr_keys.proofs.refusals.some_no_scalar.Tie as tie
 
-abbrev invariant-loop : tie.invariant-loop
+abbrev invariant-loop : tie.invariant-loop-j
 invariant-loop keys at len j₀ j = (len ≡ key_length keys at) × NoneSoFar (no_scalar_at keys at) j len
 
-abbrev decreases-loop : tie.decreases-loop
+abbrev decreases-loop : tie.decreases-loop-j
 decreases-loop keys at len j₀ j = len - j
 
 pub some_no_scalar_spec : {M : Type 1} → statement M

@@ -7,10 +7,10 @@ use Rattle.lxtr_write.specs.SlotCounting.{used_found, used_next, used_end}
 use Rattle.lxtr_write.proofs.counting.slots_used.Statement.{statement}
 use Rattle.lxtr_write.proofs.counting.slots_used.Tie as tie
 
-abbrev invariant-loop : tie.invariant-loop
+abbrev invariant-loop : tie.invariant-loop-n
 invariant-loop work slots n₀ n = (2 ≤ n) × (n ≤ slots) × (slots_used work slots ≡ slots_used work n)
 
-abbrev decreases-loop : tie.decreases-loop
+abbrev decreases-loop : tie.decreases-loop-n
 decreases-loop work slots n₀ n = n
 
 pub slots_used_spec : {M : Type 1} → statement M

@@ -7,10 +7,10 @@ use Rattle.lxtr_write.specs.SlotCounting.{taken_fits}
 use Rattle.lxtr_write.proofs.counting.taken_count.Statement.{statement}
 use Rattle.lxtr_write.proofs.counting.taken_count.Tie as tie
 
-abbrev invariant-loop : tie.invariant-loop
+abbrev invariant-loop : tie.invariant-loop-s
 invariant-loop work slots taken₀ s₀ taken s = CountSoFar (is_taken_from2 work) s slots taken
 
-abbrev decreases-loop : tie.decreases-loop
+abbrev decreases-loop : tie.decreases-loop-s
 decreases-loop work slots taken₀ s₀ taken s = slots - s
 
 pub taken_count_spec : {M : Type 1} → statement M

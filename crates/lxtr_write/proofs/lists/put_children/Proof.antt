@@ -7,10 +7,10 @@ use Rattle.lxtr_write.specs.ListWriting.{Following, head_inside, follow_start, f
 use Rattle.lxtr_write.proofs.lists.put_children.Statement.{statement}
 use Rattle.lxtr_write.proofs.lists.put_children.Tie as tie
 
-abbrev invariant-loop : tie.invariant-loop
+abbrev invariant-loop : tie.invariant-loop-t
 invariant-loop out₀ at work slots last links p start e₀ t₀ out e t = Following work slots last p out₀ at start out e t
 
-abbrev decreases-loop : tie.decreases-loop
+abbrev decreases-loop : tie.decreases-loop-t
 decreases-loop out₀ at work slots last links p start e₀ t₀ out e t = ahead (base_at work p) last t
 
 pub put_children_spec : {M : Type 1} → statement M

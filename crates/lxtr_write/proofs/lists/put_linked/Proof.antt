@@ -6,10 +6,10 @@ use Rattle.lxtr_write.specs.ListWriting.{ListsSoFar, lists_start, lists_fit, lis
 use Rattle.lxtr_write.proofs.lists.put_linked.Statement.{statement}
 use Rattle.lxtr_write.proofs.lists.put_linked.Tie as tie
 
-abbrev invariant-loop : tie.invariant-loop
+abbrev invariant-loop : tie.invariant-loop-p
 invariant-loop out₀ at work slots last links children-at e₀ p₀ out e p = ListsSoFar work slots last out₀ at out e p
 
-abbrev decreases-loop : tie.decreases-loop
+abbrev decreases-loop : tie.decreases-loop-p
 decreases-loop out₀ at work slots last links children-at e₀ p₀ out e p = slots - p
 
 pub put_linked_spec : {M : Type 1} → statement M
