@@ -1,7 +1,7 @@
 /*
  * entries: calls each function of lxtr.h on a dictionary of two words, n (value 0) and na (value 1), and then on the same image
  * with one child changed in the children lists. Every lookup still succeeds. Only lxtr_check, lxtr_fault, lxtr_highest,
- * lxtr_complete, lxtr_entries_check, lxtr_romaji_type and lxtr_romaji_finish notice the fault.
+ * lxtr_complete, lxtr_romaji_type and lxtr_romaji_finish notice the fault.
  *
  *     entries
  */
@@ -17,13 +17,6 @@ static const uint8_t text[] = { 0, 0, 0, 'n', 0, 0, 0, 'a', 0, 0, 0, 'n' };
 /* n and then a label that the image does not list; and a text of one label more than a key may have. */
 static const uint8_t text_x[] = { 0, 0, 0, 'n', 0, 0, 0, 'x' };
 static const uint8_t long_text[4 * (LXTR_MAX_LABELS + 1)];
-
-/* An entry table: two entries for n, one for na. And one that has entries for n only. */
-static const uint8_t table[] = {
-	1, 0, 0, 0, 2, 0, 0, 0, 0, 0, 0, 0, 2, 0, 0, 0, 3,
-	0, 0, 0, 0, 0, 0, 0, 0xA1, 0, 0, 0, 0, 0, 0, 0, 0xA2, 0, 0, 0, 0, 0, 0, 0, 0xB1,
-};
-static const uint8_t table_n[] = { 1, 0, 0, 0, 1, 0, 0, 0, 0, 0, 0, 0, 1, 0, 0, 0, 0, 0, 0, 0, 0xA1 };
 
 /* The kana table: one label for n, one for na. */
 static const uint8_t kana[] = { 1, 0, 0, 0x30, 0x93, 1, 0, 0, 0x30, 0x6A };
@@ -80,24 +73,6 @@ static void show_typing(const uint8_t *image, size_t length)
 	show_bytes(state, 4);
 }
 
-static void show_entries(const uint8_t *image, size_t length)
-{
-	uint32_t first[2] = { 7, 7 };
-
-	show("entries, check", lxtr_entries_check(image, length, table, sizeof table));
-	show("check, cut table", lxtr_entries_check(image, length, table, sizeof table - 1));
-	show("check, n only", lxtr_entries_check(image, length, table_n, sizeof table_n));
-	show("entries na", lxtr_entries(image, length, text, NA, table, sizeof table, first, 2));
-	printf("first            %" PRIu32 " %" PRIu32 "\n", first[0], first[1]);
-	printf("entry           ");
-	show_bytes(table + lxtr_entry_position(table, first[0]), LXTR_ENTRY_BYTES);
-	show("entries na in n", lxtr_entries(image, length, text, NA, table_n, sizeof table_n, first, 2));
-	show("entries n", lxtr_entries(image, length, text, N, table, sizeof table, NULL, 0));
-	printf("first            %" PRIu32 " %" PRIu32 "\n", first[0], first[1]);
-	show("entries nan", lxtr_entries(image, length, text, sizeof text, table, sizeof table, first, 2));
-	printf("first            %" PRIu32 " %" PRIu32 "\n", first[0], first[1]);
-}
-
 static void show_reasons(const uint8_t *image, size_t length)
 {
 	show_why("why na", lxtr_why(image, length, text, NA));
@@ -151,7 +126,6 @@ static void show_answers(const uint8_t *image, size_t length)
 	show_bytes(room, sizeof room);
 	show("complete in 20", lxtr_complete(image, length, NULL, 0, room, 20));
 	show("complete in 4", lxtr_complete(image, length, text, N, room, 4));
-	show_entries(image, length);
 	show_typing(image, length);
 }
 

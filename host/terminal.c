@@ -1,9 +1,9 @@
 /*
  * terminal: a small host program of a terminal. It loads an image, types a text label by label, and shows what is known after each
- * key press. At the end it shows why the text is not a key, unless it is one or nothing was typed; with an entry table, the entries
- * of a text that is a key; and the completions. In the text, < takes the last label back.
+ * key press. At the end it shows why the text is not a key, unless it is one or nothing was typed, and the completions. In the text,
+ * < takes the last label back.
  *
- *     terminal IMAGE TEXT [TABLE]
+ *     terminal IMAGE TEXT
  */
 #include <errno.h>
 #include <inttypes.h>
@@ -16,15 +16,6 @@
 /* One byte more than the largest image: a longer file then has a wrong length and is refused. */
 static uint8_t image[LXTR_MAX_IMAGE_BYTES + 1];
 static uint8_t room[65536];
-
-/* A longer file is cut. Its last offset then passes its entries, or an entry is cut, and it is refused. */
-static uint8_t table[1 << 20];
-
-static int failed(const char *name)
-{
-	fprintf(stderr, "terminal: %s: %s\n", name, strerror(errno));
-	return 2;
-}
 
 static int refused(const char *what, uint64_t answer)
 {
@@ -100,25 +91,6 @@ static void show_why(const struct typed *typed, uint64_t answer)
 	printf("\n");
 }
 
-/* Shows the entries of the labels typed, as hexadecimal digits; nothing if they are not a key. */
-static void show_entries(const struct typed *typed, size_t image_length, size_t table_length)
-{
-	uint32_t first = 0;
-	uint64_t found = lxtr_entries(image, image_length, typed->query, typed->length, table, table_length, &first, 1);
-
-	if (!lxtr_has_value(found))
-		return;
-	printf("entries: %" PRIu32 "\n", lxtr_number(found));
-	for (uint32_t i = 0; i < lxtr_number(found); i++) {
-		const uint8_t *entry = table + lxtr_entry_position(table, first + i);
-
-		printf("  ");
-		for (size_t byte = 0; byte < LXTR_ENTRY_BYTES; byte++)
-			printf("%02X", entry[byte]);
-		printf("\n");
-	}
-}
-
 /* Shows the records that follow the first five bytes of the room. */
 static void show_records(uint32_t count)
 {
@@ -135,27 +107,19 @@ static void show_records(uint32_t count)
 
 int main(int argc, char **argv)
 {
-	if (argc != 3 && argc != 4) {
-		fprintf(stderr, "usage: terminal IMAGE TEXT [TABLE]\n");
+	if (argc != 3) {
+		fprintf(stderr, "usage: terminal IMAGE TEXT\n");
 		return 2;
 	}
 	long length = read_file(argv[1], image, sizeof image);
-	if (length < 0)
-		return failed(argv[1]);
+	if (length < 0) {
+		fprintf(stderr, "terminal: %s: %s\n", argv[1], strerror(errno));
+		return 2;
+	}
 	uint64_t checked = lxtr_check(image, (size_t)length);
 	if (lxtr_refusal(checked) != 0)
 		return refused("image", checked);
 	printf("image: %" PRIu32 " keys\n", lxtr_number(checked));
-
-	long table_length = argc == 4 ? read_file(argv[3], table, sizeof table) : 0;
-	if (table_length < 0)
-		return failed(argv[3]);
-	if (argc == 4) {
-		uint64_t entries = lxtr_entries_check(image, (size_t)length, table, (size_t)table_length);
-		if (lxtr_refusal(entries) != 0)
-			return refused("table", entries);
-		printf("table: %" PRIu32 " entries\n", lxtr_number(entries));
-	}
 
 	struct typed typed = { .position = lxtr_position_fresh() };
 	for (const char *at = argv[2]; *at != '\0';) {
@@ -170,11 +134,9 @@ int main(int argc, char **argv)
 		show_probe(&typed, lxtr_position_probe(image, (size_t)length, typed.position));
 	}
 
-	/* Nothing is refused here: image and table were checked, and the query has whole labels. */
+	/* Nothing is refused here: the image was checked, and the query has whole labels. */
 	if (typed.length > 0)
 		show_why(&typed, lxtr_why(image, (size_t)length, typed.query, typed.length));
-	if (argc == 4)
-		show_entries(&typed, (size_t)length, (size_t)table_length);
 	uint64_t listed = lxtr_complete(image, (size_t)length, typed.query, typed.length, room, sizeof room);
 	if (lxtr_refusal(listed) != 0)
 		return refused("completions", listed);

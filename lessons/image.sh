@@ -1,6 +1,5 @@
 # shellcheck shell=bash
-# Functions of bash that find the parts of an image and change its bytes, and that make an entry table; read in by lessons/make,
-# samples/make and command/make.
+# Functions of bash that find the parts of an image and change its bytes; read in by lessons/make and .ci/command.
 # The image has N slots and E children: a header of 24 bytes, N nodes of two words, N+1 offsets, E children, the code map.
 # A word has four bytes, the lowest first.
 
@@ -63,20 +62,3 @@ slot_of_value() {
 
 # Makes the image of a key list by another rule than the builder's. It runs in the folder of the project; the names are absolute.
 second_maker() { (cd crosscheck && cargo run --release --offline --quiet --bin second_maker "$@"); }
-
-# Makes an entry table of lines, one for each value from 0 up: a word, which is not read, and its entries, each in 16 hexadecimal
-# digits. The table has version 1, the number of values, the offsets, and the entries. Numbers have four bytes, the highest first.
-entry_table() {
-    local digits list
-    local -a entries=() offsets=(0)
-    while read -r _ list; do
-        # shellcheck disable=SC2206
-        entries+=($list)
-        offsets+=(${#entries[@]})
-    done
-    digits=$(printf 01 && printf %08x $((${#offsets[@]} - 1)) "${offsets[@]}" && printf %s "${entries[@]}")
-    printf %b "$(printf %s "$digits" | sed 's/../\\x&/g')"
-}
-
-# The place of an offset in an entry table.
-table_offset_at() { echo $((5 + 4 * $1)); }

@@ -1,5 +1,5 @@
-// The inspector's command: checks, searches, lists, draws and builds LXTR images in files, types with them, and reads entry tables.
-// It calls the proved operations and prints their answers. The last line is one word, for scripts.
+// The inspector's command: checks, searches, lists, draws and builds LXTR images in files, and types with them. It calls the
+// proved operations and prints their answers. The last line is one word, for scripts.
 mod makers; // build, keys
 mod draw; // draw
 
@@ -9,7 +9,6 @@ use crate::draw::draw;
 use crate::makers::{build, keys};
 use lxtr_arguments::command;
 use lxtr_command_spec::Command;
-use lxtr_entry_lookups::{entries, entries_check};
 use lxtr_files::{FILE_ROOM, load};
 use lxtr_lookups::{check, complete, exact, longest, prefixes, probe, why};
 use lxtr_messages::{
@@ -21,31 +20,30 @@ use lxtr_utf8::decode;
 // Room for the labels of an argument. It has at most 4,096 bytes, and so at most 4,096 labels.
 const QUERY_ROOM: usize = 16384;
 
-// Runs the search that is asked for. Only entries reads the table.
-fn search(image: &[u8], table: &[u8], asked: Command, query: &[u8]) {
+// Runs the search that is asked for.
+fn search(image: &[u8], asked: Command, query: &[u8]) {
     match asked {
         Command::Exact => exact(image, query),
         Command::Prefixes => prefixes(image, query),
         Command::Longest => longest(image, query),
         Command::Probe => probe(image, query),
         Command::Why => why(image, query),
-        Command::Entries => entries(image, table, query),
         _ => complete(image, query),
     }
 }
 
 // Searches for the first `count` labels of a room.
-fn search_labels(image: &[u8], table: &[u8], asked: Command, room: &[u8], count: usize)
+fn search_labels(image: &[u8], asked: Command, room: &[u8], count: usize)
     requires { 4 * count ≤ length room.now }
 {
     let size = 4 * count;
-    search(image, table, asked, &room[..size]);
+    search(image, asked, &room[..size]);
 }
 
-// Searches for the word that is the argument of that number.
-fn search_word(image: &[u8], table: &[u8], asked: Command, argument: usize) {
+// Searches for the word that is the third argument.
+fn search_word(image: &[u8], asked: Command) {
     let mut word = io::buffer();
-    let length = os::arg(argument, &mut word);
+    let length = os::arg(3, &mut word);
     if os::errno() != 0 {
         say(LONG_ARGUMENT);
         say(REFUSED);
@@ -58,12 +56,7 @@ fn search_word(image: &[u8], table: &[u8], asked: Command, argument: usize) {
         say(REFUSED);
         return;
     }
-    search_labels(image, table, asked, &query, decoded.count);
-}
-
-// Searches for the word that is the third argument, without a table.
-fn search_operand(image: &[u8], asked: Command) {
-    search_word(image, b"", asked, 3);
+    search_labels(image, asked, &query, decoded.count);
 }
 
 // Types the text that is the fourth argument.
@@ -78,22 +71,13 @@ fn type_argument(image: &[u8], kana: &[u8]) {
     type_text(image, kana, &text[..length]);
 }
 
-// Runs a command on an image and a table.
-fn run_on_table(image: &[u8], table: &[u8], asked: Command) {
-    match asked {
-        Command::TypeText => type_argument(image, table),
-        Command::Entries => search_word(image, table, asked, 4),
-        _ => entries_check(image, table),
-    }
-}
-
-// The same, where the table is in the file that the third argument names.
-fn run_with_table(image: &[u8], asked: Command) {
+// Types with the kana table in the file that the third argument names.
+fn type_with_table(image: &[u8]) {
     let mut room = [0u8; FILE_ROOM];
     let mut is_whole = false;
     let size = load(3, &mut room, &mut is_whole);
     if is_whole {
-        run_on_table(image, &room[..size], asked);
+        type_argument(image, &room[..size]);
     }
 }
 
@@ -104,17 +88,15 @@ fn run_on(file: &[u8], asked: Command, operands: usize) {
         Command::Draw => draw(file),
         Command::Build => build(file),
         Command::Keys => keys(file),
-        Command::TypeText => run_with_table(file, asked),
-        Command::Entries => run_with_table(file, asked),
-        Command::EntriesCheck => run_with_table(file, asked),
+        Command::TypeText => type_with_table(file),
         Command::Complete => {
             if operands < 2 {
                 complete(file, b"");
             } else {
-                search_operand(file, asked);
+                search_word(file, asked);
             }
         }
-        _ => search_operand(file, asked),
+        _ => search_word(file, asked),
     }
 }
 

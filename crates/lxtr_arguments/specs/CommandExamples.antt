@@ -3,8 +3,8 @@ use Rattle.std.specs.Prelude.{ℕ, ◌≡◌, refl, List, [], ◌∷◌}
 use Prim.Native.String.{String}
 use Rattle.lxtr_laws.specs.ExampleTables.{AllHold, ◌and◌}
 use Rattle.lxtr_command_spec.specs.declared.Command.{Command}
-use Rattle.lxtr_command_spec.specs.declared.Command.TheVariants.{Check, Exact, Prefixes, Longest, Probe, Why, Complete, Build, Keys, Draw, TypeText, Entries, EntriesCheck, Help, Unknown, WrongOperands}
-use Rattle.lxtr_command_spec.specs.Commands.{ascii_from, ascii, same_bytes, taking, row, table_rows, later_rows, command_of}
+use Rattle.lxtr_command_spec.specs.declared.Command.TheVariants.{Check, Exact, Prefixes, Longest, Probe, Why, Complete, Build, Keys, Draw, TypeText, Help, Unknown, WrongOperands}
+use Rattle.lxtr_command_spec.specs.Commands.{ascii_from, ascii, same_bytes, taking, row, later_rows, command_of}
 
 pub data Example : Type 0 where
   -- a name, how many operands follow it, and what it means
@@ -28,8 +28,6 @@ examples =
     ∷ means "keys" 2 Keys
     ∷ means "draw" 1 Draw
     ∷ means "type" 3 TypeText
-    ∷ means "entries" 3 Entries
-    ∷ means "entries-check" 2 EntriesCheck
     ∷ means "help" 0 Help
     -- too few operands, and too many
     ∷ means "check" 0 WrongOperands
@@ -44,24 +42,19 @@ examples =
     ∷ means "draw" 0 WrongOperands
     ∷ means "type" 2 WrongOperands
     ∷ means "type" 4 WrongOperands
-    ∷ means "entries" 2 WrongOperands
-    ∷ means "entries" 4 WrongOperands
-    ∷ means "entries-check" 1 WrongOperands
-    ∷ means "entries-check" 3 WrongOperands
     ∷ means "help" 1 WrongOperands
-    -- no name, a shorter one, a longer one, one cut at its hyphen, one with a capital letter, and one with a letter changed
+    -- no name, a shorter one, a longer one, one with a capital letter, and one with a letter changed
     ∷ means "" 0 Unknown
     ∷ means "chec" 1 Unknown
     ∷ means "checks" 1 Unknown
-    ∷ means "entries-" 2 Unknown
     ∷ means "Check" 1 Unknown
     ∷ means "drew" 1 Unknown
     ∷ []
 
 pub command_examples_hold : AllHold Holds examples
-unfolding examples ascii_from ascii same_bytes taking row table_rows later_rows command_of
+unfolding examples ascii_from ascii same_bytes taking row later_rows command_of
 command_examples_hold =
     refl and refl and refl and refl and refl and refl and refl and refl and refl and refl and refl and refl and refl
     and refl and refl and refl and refl and refl and refl and refl and refl and refl and refl and refl and refl and refl
-    and refl and refl and refl and refl and refl and refl and refl and refl and refl and refl and refl and refl
+    and refl and refl and refl and refl and refl
     and tt

@@ -1,6 +1,6 @@
 // Which command the first argument names, and whether it takes the given number of operands.
 ghost use Rattle.std.specs.Prelude.{◌≡◌};
-ghost use Rattle.lxtr_command_spec.specs.Commands.{same_bytes, taking, table_rows, later_rows, command_of};
+ghost use Rattle.lxtr_command_spec.specs.Commands.{same_bytes, taking, later_rows, command_of};
 
 use lxtr_command_spec::Command;
 
@@ -30,26 +30,7 @@ fn taking(command: Command, fewest: usize, most: usize, count: usize) -> Command
     Command::WrongOperands
 }
 
-// The rows of the table of commands from `type` to `help`.
-fn table_rows(name: &[u8], count: usize) -> Command
-    ensures { result ≡ table_rows name.now count }
-{
-    if same_bytes(name, b"type") {
-        return taking(Command::TypeText, 3, 3, count);
-    }
-    if same_bytes(name, b"entries") {
-        return taking(Command::Entries, 3, 3, count);
-    }
-    if same_bytes(name, b"entries-check") {
-        return taking(Command::EntriesCheck, 2, 2, count);
-    }
-    if same_bytes(name, b"help") {
-        return taking(Command::Help, 0, 0, count);
-    }
-    Command::Unknown
-}
-
-// The rows from `complete` on.
+// The rows of the table of commands from `complete` to `help`.
 fn later_rows(name: &[u8], count: usize) -> Command
     ensures { result ≡ later_rows name.now count }
 {
@@ -65,7 +46,13 @@ fn later_rows(name: &[u8], count: usize) -> Command
     if same_bytes(name, b"draw") {
         return taking(Command::Draw, 1, 1, count);
     }
-    table_rows(name, count)
+    if same_bytes(name, b"type") {
+        return taking(Command::TypeText, 3, 3, count);
+    }
+    if same_bytes(name, b"help") {
+        return taking(Command::Help, 0, 0, count);
+    }
+    Command::Unknown
 }
 
 // The command of that name, followed by `count` operands.

@@ -3,7 +3,7 @@ use Rattle.std.specs.Prelude.{ℕ, zero, suc, ◌+◌, List, [], ◌∷◌, Bool
 use Prim.Native.Char.{code}
 use Prim.Native.String.{String, len, char_at}
 use Rattle.lxtr_command_spec.specs.declared.Command.{Command}
-use Rattle.lxtr_command_spec.specs.declared.Command.TheVariants.{Check, Exact, Prefixes, Longest, Probe, Why, Complete, Build, Keys, Draw, TypeText, Entries, EntriesCheck, Help, Unknown, WrongOperands}
+use Rattle.lxtr_command_spec.specs.declared.Command.TheVariants.{Check, Exact, Prefixes, Longest, Probe, Why, Complete, Build, Keys, Draw, TypeText, Help, Unknown, WrongOperands}
 
 -- the bytes of a text of ASCII characters: of n characters from character i on, then of all
 unfoldable pub ascii_from : ℕ → String → ℕ → List ℕ
@@ -28,23 +28,16 @@ taking command fewest most n = elim (leb fewest n && leb n most) [ true ↦ comm
 unfoldable pub row : String → ℕ → ℕ → Command → List ℕ → ℕ → Command → Command
 row text fewest most command name n later = elim (same_bytes name (ascii text)) [ true ↦ taking command fewest most n | false ↦ later ]
 
--- the rows of the commands that read a table, and of help
-unfoldable pub table_rows : List ℕ → ℕ → Command
-table_rows name n =
-    row "type" 3 3 TypeText name n
-    (row "entries" 3 3 Entries name n
-    (row "entries-check" 2 2 EntriesCheck name n
-    (row "help" 0 0 Help name n
-    Unknown)))
-
--- the rows of the commands that list, write files or draw
+-- the rows of the commands that list, write files, draw or type
 unfoldable pub later_rows : List ℕ → ℕ → Command
 later_rows name n =
     row "complete" 1 2 Complete name n
     (row "build" 2 2 Build name n
     (row "keys" 2 2 Keys name n
     (row "draw" 1 1 Draw name n
-    (table_rows name n))))
+    (row "type" 3 3 TypeText name n
+    (row "help" 0 0 Help name n
+    Unknown)))))
 
 -- the command that a name means with n operands
 unfoldable pub command_of : List ℕ → ℕ → Command

@@ -1,7 +1,7 @@
 // The answer types of the command's parts: UTF-8 text, text files of words, and arguments. Their meaning is defined in specs/.
 
 // A text decoded into labels: how many there are. `problem` is 0, or NOT_UTF8, or NO_ROOM.
-#[derive(Drop)]
+#[derive(Clone, Copy)]
 pub struct Decoded {
     pub problem: u8,
     pub count: usize,
@@ -9,7 +9,7 @@ pub struct Decoded {
 
 // The key list of a text file of words: how many keys and how many bytes it has. `problem` is 0 or one of those below. For the first
 // two of them `line` is the line at fault, counted from 1; otherwise it is 0.
-#[derive(Drop)]
+#[derive(Clone, Copy)]
 pub struct Keyed {
     pub problem: u8,
     pub line: usize,
@@ -30,7 +30,7 @@ pub const MANY_WORDS: u8 = 3;
 pub const NO_ROOM: u8 = 4;
 
 // What the command is asked to do.
-#[derive(Drop)]
+#[derive(Clone, Copy)]
 pub enum Command {
     Check,
     Exact,
@@ -43,8 +43,6 @@ pub enum Command {
     Keys,
     Draw,
     TypeText,
-    Entries,
-    EntriesCheck,
     Help,
     Unknown, // no such command
     WrongOperands, // more or fewer operands than the command takes

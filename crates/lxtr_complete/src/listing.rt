@@ -18,7 +18,7 @@ use lxtr_image::nodes::{base_of, has_leaf, value_number};
 use lxtr_spec::LENGTH_COUNT;
 
 // An entry of a children list that is not an end: the child, and the label that leads to it.
-#[derive(Drop)]
+#[derive(Clone, Copy)]
 struct Entry {
     slot: u32,
     label: u32,

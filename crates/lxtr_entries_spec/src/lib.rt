@@ -7,7 +7,7 @@ pub const ENTRY_BYTES: usize = 8;
 pub const OFFSET_BYTES: usize = 4;
 
 // The check of an entry table: how many entries it has.
-#[derive(Drop)]
+#[derive(Clone, Copy)]
 pub struct TableVerdict {
     pub refusal: u8,
     pub entries: u32,
@@ -15,7 +15,7 @@ pub struct TableVerdict {
 
 // Where the entries of a query lie: whether the query has a value, the place of its first entry among the entries, which is 0 if
 // there is none, and how many there are.
-#[derive(Drop)]
+#[derive(Clone, Copy)]
 pub struct Located {
     pub refusal: u8,
     pub valued: bool,

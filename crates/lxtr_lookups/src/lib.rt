@@ -14,26 +14,21 @@ use lxtr_messages::{
 use lxtr_output::print;
 use lxtr_search::cases::{found_value, has_longer};
 use lxtr_search::lookup;
-use lxtr_spec::{Found, LENGTH_COUNT, Lookup, MAX_LABELS};
+use lxtr_spec::{Found, LENGTH_COUNT, MAX_LABELS};
 use lxtr_text::LINE_ROOM;
 pub use reasons::why;
 
 // Room for the completions of a prefix. It is lent as an array, so that no proof has to count its elements.
 const LISTING_ROOM: usize = 2097152;
 
-// Prints what a check answers: a sentence with a count; or the refusal and, if the image is at fault, where its fault lies.
-pub fn print_verdict(image: &[u8], refusal: u8, sentence: u8, count: u32) {
-    if refusal == 0 {
-        tell(sentence, count, 0);
+pub fn check(image: &[u8]) {
+    let verdict = lxtr_check::check(image);
+    if verdict.refusal == 0 {
+        tell(PAIRS, verdict.pairs, 0);
         say(ACCEPTED);
         return;
     }
-    refuse_at(refusal, lxtr_fault::fault(image));
-}
-
-pub fn check(image: &[u8]) {
-    let verdict = lxtr_check::check(image);
-    print_verdict(image, verdict.refusal, PAIRS, verdict.pairs);
+    refuse_at(verdict.refusal, lxtr_fault::fault(image));
 }
 
 // Prints a word as text and as labels, unless it has more labels than a key may have.
@@ -76,17 +71,7 @@ fn print_absent(image: &[u8], query: &[u8], longer: bool) {
     }
 }
 
-// Prints a word and its value, or why it has none. Returns whether it has one.
-pub fn print_lookup(image: &[u8], query: &[u8], answer: Lookup) -> bool {
-    print_word(query);
-    let is_found = print_value(found_value(answer));
-    if !is_found {
-        print_absent(image, query, has_longer(answer));
-    }
-    is_found
-}
-
-pub fn end_found(is_found: bool) {
+fn end_found(is_found: bool) {
     if is_found {
         say(FOUND);
     } else {
@@ -100,7 +85,12 @@ pub fn exact(image: &[u8], query: &[u8]) {
         refuse(answer.refusal);
         return;
     }
-    end_found(print_lookup(image, query, answer));
+    print_word(query);
+    let is_found = print_value(found_value(answer));
+    if !is_found {
+        print_absent(image, query, has_longer(answer));
+    }
+    end_found(is_found);
 }
 
 // Prints the line of a prefix of `count` labels. A prefix always lies within the query; the test only makes the bound provable.

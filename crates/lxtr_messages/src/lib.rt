@@ -111,10 +111,6 @@ pub const AFTER: u8 = 49;
 
 pub const NO_KEY_ENDS: u8 = 50;
 
-pub const ENTRIES: u8 = 51;
-
-pub const NO_ENTRIES: u8 = 52;
-
 // Prints a sentence. The marks in it stand for the two numbers.
 pub fn tell(sentence: u8, first: u32, second: u32) {
     print_form(
@@ -169,9 +165,7 @@ pub fn tell(sentence: u8, first: u32, second: u32) {
               there is no step by |\
               \x20from slot 1|\
               \x20after |\
-              all labels are walked, but no key ends there\n|\
-              entries %\n|\
-              it has no entries\n|",
+              all labels are walked, but no key ends there\n|",
             sentence,
         ),
         first,
@@ -213,19 +207,17 @@ pub fn printed(n: usize) -> u32 {
 
 pub fn print_usage() {
     print(
-        b"lxtr check IMAGE                whether it is an image; if not, what is wrong and where\n\
-          lxtr exact IMAGE WORD           the value of a word\n\
-          lxtr prefixes IMAGE TEXT        the words that a text begins with\n\
-          lxtr longest IMAGE TEXT         the longest of them\n\
-          lxtr probe IMAGE WORD           the value of a word; whether longer words begin with it\n\
-          lxtr why IMAGE WORD             why a word is missing, and at which letter\n\
-          lxtr complete IMAGE [PREFIX]    the words that begin with a prefix, in code order\n\
-          lxtr build KEYS IMAGE           makes the image of a key list\n\
-          lxtr keys TEXT KEYS             makes a key list from a text file, one word per line\n\
-          lxtr draw IMAGE                 a graph for Graphviz, with the fault in red\n\
-          lxtr type IMAGE KANA TEXT       the kana of a typed text, and what waits for more letters\n\
-          lxtr entries IMAGE TABLE WORD   the value of a word, and its entries in an entry table\n\
-          lxtr entries-check IMAGE TABLE  whether it is an entry table for the image; if not, what is wrong\n\
-          lxtr help                       this text\n",
+        b"lxtr check IMAGE              whether it is an image; if not, what is wrong and where\n\
+          lxtr exact IMAGE WORD         the value of a word\n\
+          lxtr prefixes IMAGE TEXT      the words that a text begins with\n\
+          lxtr longest IMAGE TEXT       the longest of them\n\
+          lxtr probe IMAGE WORD         the value of a word; whether longer words begin with it\n\
+          lxtr why IMAGE WORD           why a word is missing, and at which letter\n\
+          lxtr complete IMAGE [PREFIX]  the words that begin with a prefix, in code order\n\
+          lxtr build KEYS IMAGE         makes the image of a key list\n\
+          lxtr keys TEXT KEYS           makes a key list from a text file, one word per line\n\
+          lxtr draw IMAGE               a graph for Graphviz, with the fault in red\n\
+          lxtr type IMAGE KANA TEXT     the kana of a typed text, and what waits for more letters\n\
+          lxtr help                     this text\n",
     );
 }

@@ -18,7 +18,7 @@ fn limit_of(refusal: u8) -> u32 {
     }
 }
 
-// Prints the sentence of a refusal, without ending the line. No operation gives 0 or 28, so their texts are empty.
+// Prints the sentence of a refusal, without ending the line. No operation gives 0 or 26 to 28, so their texts are empty.
 pub fn print_refusal(refusal: u8) {
     print_form(
         text_at(
@@ -48,8 +48,8 @@ pub fn print_refusal(refusal: u8) {
               refusal 23: there is no room for the image|\
               refusal 24: the kana table ends before the text of some value of the image is whole|\
               refusal 25: the image has the empty key, which cannot be typed|\
-              refusal 26: the entry table is malformed: its version, its length or an offset is wrong|\
-              refusal 27: a value of the image is not below the number of values of the entry table|\
+              |\
+              |\
               |\
               refusal 29: there is no room for what goes out|",
             refusal,

@@ -12,7 +12,7 @@ use lxtr_bytes::numbers::index;
 use lxtr_keys::{key_label, key_length, next_key};
 
 // `count` keys. The first starts at position `at` and has value number `first`. Their first `depth` labels lead to the slot.
-#[derive(Drop)]
+#[derive(Clone, Copy)]
 pub struct Group {
     pub at: usize,
     pub first: usize,

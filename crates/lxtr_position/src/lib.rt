@@ -18,7 +18,7 @@ use lxtr_walk::step_by;
 
 // How many labels were typed, how many of them were walked from slot 1 (all before the first that failed, at most MAX_LABELS), and
 // the slot that these reach. The slot before it is its parent, so no list of slots is kept.
-#[derive(Drop)]
+#[derive(Clone, Copy)]
 pub struct Position {
     pub slot: u32,
     pub walked: u16,
@@ -26,7 +26,7 @@ pub struct Position {
 }
 
 // The position after a move; after a refusal, the position before it.
-#[derive(Drop)]
+#[derive(Clone, Copy)]
 pub struct Moved {
     pub refusal: u8,
     pub position: Position,

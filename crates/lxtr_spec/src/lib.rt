@@ -23,7 +23,7 @@ pub const BASE_COUNT: usize = 65536;
 pub const MAX_TYPED: u16 = 255;
 
 // A value number, a code or a slot; or none.
-#[derive(Drop)]
+#[derive(Clone, Copy)]
 pub enum Found {
     Is(u32),
     Nothing,
@@ -32,14 +32,14 @@ pub enum Found {
 // In each answer below `refusal` is a number of `refusals`, or 0 for none.
 
 // The check: the number of pairs in the image's set.
-#[derive(Drop)]
+#[derive(Clone, Copy)]
 pub struct Verdict {
     pub refusal: u8,
     pub pairs: u32,
 }
 
 // Where a fault lies: the first place at which the rule of refusal 9, 10, 11 or 12 does not hold.
-#[derive(Drop)]
+#[derive(Clone, Copy)]
 pub enum Fault {
     // accepted, or refused by 1 to 8
     Nowhere,
@@ -62,14 +62,14 @@ pub enum Fault {
 }
 
 // The highest value number of the image's set, or none if it is empty.
-#[derive(Drop)]
+#[derive(Clone, Copy)]
 pub struct Highest {
     pub refusal: u8,
     pub value: Found,
 }
 
 // What a query is to the keys: the four cases of a lookup.
-#[derive(Drop)]
+#[derive(Clone, Copy)]
 pub enum Case {
     // nothing: neither a key nor the beginning of one
     Neither,
@@ -82,7 +82,7 @@ pub enum Case {
 }
 
 // The lookup: the case, or Neither after a refusal.
-#[derive(Drop)]
+#[derive(Clone, Copy)]
 pub struct Lookup {
     pub refusal: u8,
     pub case: Case,
@@ -98,7 +98,7 @@ pub struct Prefixes {
 }
 
 // Why a query is found or not. A place counts the labels of the query from 0: it is the first at which the walk stops.
-#[derive(Drop)]
+#[derive(Clone, Copy)]
 pub enum Reason {
     // refused
     NoReason,
@@ -115,14 +115,14 @@ pub enum Reason {
 }
 
 // The reason, or NoReason after a refusal.
-#[derive(Drop)]
+#[derive(Clone, Copy)]
 pub struct Why {
     pub refusal: u8,
     pub reason: Reason,
 }
 
 // The completions: how many were written, and whether the listing stopped for lack of room.
-#[derive(Drop)]
+#[derive(Clone, Copy)]
 pub struct Completion {
     pub refusal: u8,
     pub count: u32,
@@ -130,7 +130,7 @@ pub struct Completion {
 }
 
 // The builder: the length of the image in bytes.
-#[derive(Drop)]
+#[derive(Clone, Copy)]
 pub struct Built {
     pub refusal: u8,
     pub length: u32,

@@ -8,7 +8,7 @@ use lxtr_bytes::labels::is_scalar;
 
 // The character at the front of a text: its number, and its length in bytes, which is 0 if the text does not begin with a
 // character.
-#[derive(Drop)]
+#[derive(Clone, Copy)]
 pub struct Character {
     pub number: u32,
     pub length: usize,

@@ -20,7 +20,7 @@ use romaji_spec::MAX_KEPT;
 
 // The piece at a place: its length in bytes, and the value of the key, or none if a byte passes. Length 0: the text is kept from
 // this place on.
-#[derive(Drop)]
+#[derive(Clone, Copy)]
 pub struct Next {
     pub length: usize,
     pub value: Found,

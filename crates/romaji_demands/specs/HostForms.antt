@@ -1,10 +1,10 @@
 -- The state and the answer as a host program in C has them: a state reads back, after every answer without refusal it has its form
 -- again, and typing in parts is typing at once. Only the statements; the proof is `host_forms` in Laws/HostForms.antt.
 use Rattle.std.specs.Prelude.{ℕ, ◌+◌, ◌*◌, ◌%◌, ◌≤◌, ◌<◌, ◌^◌, ◌≡◌, List, [], ◌++◌, length, take, drop}
-use Rattle.lxtr_demands.specs.Operations.{Bytes}
 use Rattle.romaji_spec.specs.Pieces.{max_kept}
 use Rattle.romaji_spec.specs.Typing.{state_of, TypingAnswer, type_of, finish_of}
 use Rattle.romaji_spec.specs.HostStates.{state_bytes, kept_bytes, HostTyping, host_type_of, host_finish_of}
+use Rattle.romaji_demands.specs.TypingDemand.{Bytes}
 
 -- the bytes of a state that keeps these bytes
 abbrev pub bytes_of : List ℕ → List ℕ

@@ -2,12 +2,11 @@
 -- Only the program that the statements are about, and the statements; that the definitions meet them is `typing_demand` in
 -- Laws/Typing.antt, `typing_in_parts` and `finishing_after_typing` in Laws/Parts.antt, and `typing_in_many_parts` and
 -- `finishing_after_parts` in Laws/ManyParts.antt.
-use Rattle.std.specs.Prelude.{ℕ, suc, ◌+◌, ◌*◌, ◌≤◌, ◌<◌, ◌≡◌, ◌≢◌, ◌⊎◌, List, [], ◌∷◌, ◌++◌, length, take, drop}
+use Rattle.std.specs.Prelude.{ℕ, suc, ◌+◌, ◌*◌, ◌≤◌, ◌<◌, ◌^◌, ◌≡◌, ◌≢◌, ◌⊎◌, List, [], ◌∷◌, ◌++◌, length, take, drop, get_or}
 use Rattle.std.proofs.Math.Option.{none}
 use Rattle.lxtr_spec.specs.Refusals.{image_refusal, unless_refused}
 use Rattle.lxtr_spec.specs.Sets.{PairSet, Has, ImageOf}
 use Rattle.lxtr_spec.specs.Meaning.{Longer}
-use Rattle.lxtr_demands.specs.Operations.{Bytes}
 use Rattle.romaji_spec.specs.KanaTables.{text_at}
 use Rattle.romaji_spec.specs.Pieces.{max_kept, Piece, outgoing}
 use Rattle.romaji_spec.specs.Typing.{kept_in, TypingAnswer, refused_by, went_out, type_of, finish_of}
@@ -41,6 +40,10 @@ pub data RefusedBy (b kana : List ℕ) : ℕ → Type 0 where
   is_table_short : (d : PairSet) (k : List ℕ) (v : ℕ) → ImageOf b d → Has d k v → length kana < text_at kana (suc v) → RefusedBy b kana 24
   -- 25: the image has the empty key
   empty_key : (d : PairSet) (v : ℕ) → ImageOf b d → TableWhole kana d → Has d [] v → RefusedBy b kana 25
+
+-- a list of bytes
+abbrev pub Bytes : List ℕ → Type 0
+Bytes t = (i : ℕ) → i < length t → get_or t i 0 < 2 ^ 8
 
 -- What a is if the text is cut so: what goes out is, piece by piece, the kana of the key's value or the byte as a label; the rest is
 -- kept. If that has no room, 29.

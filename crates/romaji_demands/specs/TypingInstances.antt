@@ -4,10 +4,9 @@ use Rattle.std.specs.Prelude.{ℕ, zero, suc, ◌*◌, ◌<◌, ◌^◌, ◌≡�
 use Rattle.std.proofs.Common.{arith, ap, ◌∙◌, ⊎_elim}
 use Rattle.lxtr_spec.specs.Numbers.{be_words}
 use Rattle.lxtr_spec.specs.Samples.{p3}
-use Rattle.lxtr_demands.specs.Operations.{Bytes}
 use Rattle.romaji_spec.specs.Typing.{kept_in, state_of, TypingAnswer, refused_by, went_out, type_of, finish_of}
 use Rattle.romaji_spec.specs.declared.State.{State}
-use Rattle.romaji_demands.specs.TypingDemand.{Program, defined, text_of, TypingDemand}
+use Rattle.romaji_demands.specs.TypingDemand.{Program, defined, Bytes, text_of, TypingDemand}
 use Rattle.romaji_demands.specs.Laws.Typing.{typing_demand}
 use Rattle.romaji_demands.specs.Laws.Outcomes.{Refusal, GoneOut, outcome, one_answer, type_cut, finish_cut, type_demanded, finish_demanded}
 use Rattle.romaji_demands.specs.Laws.Parts.{kept_same}

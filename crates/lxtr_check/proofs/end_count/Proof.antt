@@ -9,10 +9,10 @@ use Rattle.lxtr_laws.specs.Tallies.{count_fits}
 use Rattle.lxtr_check.proofs.end_count.Statement.{statement}
 use Rattle.lxtr_check.proofs.end_count.Tie as tie
 
-abbrev invariant-loop : tie.invariant-loop
+abbrev invariant-loop : tie.invariant-loop-s
 invariant-loop image slots ends₀ s₀ ends s = (slots ≡ slot_count image) × CountSoFar (is_end image) s slots ends
 
-abbrev decreases-loop : tie.decreases-loop
+abbrev decreases-loop : tie.decreases-loop-s
 decreases-loop image slots ends₀ s₀ ends s = slots - s
 
 pub end_count_spec : {M : Type 1} → statement M

@@ -11,4 +11,4 @@ is_end_spec =
     (tie.spec
     (λ c κs. search rules)
     (λ c κs. search rules)
-    (λ c. rw (← c.before.is-used-from-2.ensures, ← c.is_IsLeaf.ensures)))
+    (λ c. rw (← c.before.is_used_from_2.ensures, ← c.is_leaf.ensures)))

@@ -4,10 +4,10 @@ use Rattle.lxtr_check_reach.specs.WaysUp.{Ascending, ascend_start, ascend_next, 
 use Rattle.lxtr_check_reach.proofs.ancestor.Statement.{statement}
 use Rattle.lxtr_check_reach.proofs.ancestor.Tie as tie
 
-abbrev invariant-loop : tie.invariant-loop
+abbrev invariant-loop : tie.invariant-loop-left
 invariant-loop image s steps at₀ left₀ at left = Ascending image steps s left at
 
-abbrev decreases-loop : tie.decreases-loop
+abbrev decreases-loop : tie.decreases-loop-left
 decreases-loop image s steps at₀ left₀ at left = left
 
 pub ancestor_spec : {M : Type 1} → statement M

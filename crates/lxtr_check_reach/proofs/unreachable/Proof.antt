@@ -7,10 +7,10 @@ use Rattle.lxtr_check_reach.specs.WaysUp.{Ascending, ascend_start, ascend_by, re
 use Rattle.lxtr_check_reach.proofs.unreachable.Statement.{statement}
 use Rattle.lxtr_check_reach.proofs.unreachable.Tie as tie
 
-abbrev invariant-loop : tie.invariant-loop
+abbrev invariant-loop : tie.invariant-loop-left
 invariant-loop image s at₀ left₀ at left = Ascending image (suc length_count) s left at
 
-abbrev decreases-loop : tie.decreases-loop
+abbrev decreases-loop : tie.decreases-loop-left
 decreases-loop image s at₀ left₀ at left = left
 
 pub unreachable_spec : {M : Type 1} → statement M

@@ -7,10 +7,10 @@ use Rattle.lxtr_highest.specs.Bounds.{HighestSoFar, highest_start, highest_next,
 use Rattle.lxtr_highest.proofs.highest_value.Statement.{statement}
 use Rattle.lxtr_highest.proofs.highest_value.Tie as tie
 
-abbrev invariant-loop : tie.invariant-loop
+abbrev invariant-loop : tie.invariant-loop-s
 invariant-loop image slots bound₀ s₀ bound s = (slots ≡ slot_count image) × HighestSoFar image s slots bound
 
-abbrev decreases-loop : tie.decreases-loop
+abbrev decreases-loop : tie.decreases-loop-s
 decreases-loop image slots bound₀ s₀ bound s = slots - s
 
 pub highest_value_spec : {M : Type 1} → statement M

@@ -7,10 +7,10 @@ use Rattle.lxtr_utf8.specs.Decoding.{from_fits, from_less, CountSoFar, count_sta
 use Rattle.lxtr_utf8.proofs.count_labels.Statement.{statement}
 use Rattle.lxtr_utf8.proofs.count_labels.Tie as tie
 
-abbrev invariant-loop : tie.invariant-loop
+abbrev invariant-loop : tie.invariant-loop-at
 invariant-loop text at₀ count₀ at count = CountSoFar text at count
 
-abbrev decreases-loop : tie.decreases-loop
+abbrev decreases-loop : tie.decreases-loop-at
 decreases-loop text at₀ count₀ at count = length text - at
 
 pub count_labels_spec : {M : Type 1} → statement M

@@ -9,17 +9,17 @@ use Rattle.lxtr_utf8.specs.Decoding.{from_fits, LabelsPut, put_start, put_less, 
 use Rattle.lxtr_utf8.proofs.put_labels.Statement.{statement}
 use Rattle.lxtr_utf8.proofs.put_labels.Tie as tie
 
-abbrev invariant-loop : tie.invariant-loop
+abbrev invariant-loop : tie.invariant-loop-at
 invariant-loop text room₀ at₀ i₀ room at i = LabelsPut text room₀ at i room
 
-abbrev decreases-loop : tie.decreases-loop
+abbrev decreases-loop : tie.decreases-loop-at
 decreases-loop text room₀ at₀ i₀ room at i = length text - at
 
 -- the points of the code that facts are taken from: after the character is read, and the loop
-abbrev read : tie.After-struct-known invariant-loop decreases-loop → tie.After-first-character invariant-loop decreases-loop
+abbrev read : tie.After-struct_known-1 invariant-loop decreases-loop → tie.After-first_character-next invariant-loop decreases-loop
 read c = c.before.before.before.before.before
 
-abbrev loop : tie.After-first-character invariant-loop decreases-loop → tie.At-loop invariant-loop decreases-loop
+abbrev loop : tie.After-first_character-next invariant-loop decreases-loop → tie.At-loop invariant-loop decreases-loop
 loop c = c.before.before.before
 
 pub put_labels_spec : {M : Type 1} → statement M

@@ -8,10 +8,10 @@ use Rattle.lxtr_laws.specs.Walking.{Walked, walked_start, walked_place, walked_n
 use Rattle.lxtr_walk.proofs.walk.Statement.{statement}
 use Rattle.lxtr_walk.proofs.walk.Tie as tie
 
-abbrev invariant-loop : tie.invariant-loop
+abbrev invariant-loop : tie.invariant-loop-i
 invariant-loop image query count n₀ i₀ n i = (count ≡ length (labels_of query)) × Walked image (labels_of query) i n
 
-abbrev decreases-loop : tie.decreases-loop
+abbrev decreases-loop : tie.decreases-loop-i
 decreases-loop image query count n₀ i₀ n i = count - i
 
 pub walk_spec : {M : Type 1} → statement M

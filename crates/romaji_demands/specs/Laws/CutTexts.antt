@@ -10,10 +10,10 @@ use Rattle.std.proofs.lemmas.Bool.{false≢true}
 use Rattle.std.proofs.Math.ListN.{drop}
 use Rattle.lxtr_spec.specs.Sets.{PairSet, ImageOf}
 use Rattle.lxtr_spec.specs.Meaning.{Longer}
-use Rattle.lxtr_demands.specs.Operations.{Bytes}
 use Rattle.romaji_spec.specs.Pieces.{could_grow, piece_at, piece_text, Cutting, only_rest, with_piece, cut}
 use Rattle.romaji_laws.specs.Steps.{Keeps, cut_end, cut_keeps, cut_next}
 use Rattle.romaji_demands.specs.Cuts.{CutInto, Never}
+use Rattle.romaji_demands.specs.TypingDemand.{Bytes}
 use Rattle.romaji_demands.specs.Laws.FrontParts.{bytes_drop}
 use Rattle.romaji_demands.specs.Laws.Pieces.{piece_some}
 use Rattle.romaji_demands.specs.Laws.Cuts.{only_rest_lem, first_cut}

@@ -16,12 +16,13 @@ use Rattle.lxtr_laws.specs.Tests.{and_is_true}
 use Rattle.lxtr_laws.specs.Lengths.{words_length}
 use Rattle.lxtr_laws.specs.StepFacts.{none_not_some}
 use Rattle.lxtr_laws.specs.QueryLabels.{labels_back}
-use Rattle.lxtr_demands.specs.Operations.{defined, Bytes}
+use Rattle.lxtr_demands.specs.Operations.{defined}
 use Rattle.lxtr_demands.specs.Demand2.{Searched, Answered}
 use Rattle.lxtr_demands.specs.Laws.Lookups.{case_says}
 use Rattle.lxtr_demands.specs.Laws.Demand2.{demand2}
 use Rattle.romaji_spec.specs.Pieces.{max_kept, could_grow, Piece, matched, matched_value, piece_by, piece_at, piece_text}
 use Rattle.romaji_demands.specs.Cuts.{NoKeyAt, PieceAt}
+use Rattle.romaji_demands.specs.TypingDemand.{Bytes}
 use Rattle.romaji_demands.specs.Laws.FrontParts.{bytes_take}
 
 -- p is the piece at the beginning of the text r, and its bytes are a front part of r

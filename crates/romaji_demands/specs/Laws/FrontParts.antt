@@ -5,7 +5,7 @@ use Rattle.std.proofs.Common.{arith, sym, ap, ◌∙◌, inl, inr, ⊎_elim, len
 use mathlib.Core.List.{List, [], ◌∷◌, ◌++◌, head-eq_of_cons-eq, tail-eq_of_cons-eq, append_cancel_left}
 use Rattle.std.proofs.Math.ListN.{get_or-append}
 use Rattle.std.proofs.Math.Seq.{take-append_seam}
-use Rattle.lxtr_demands.specs.Operations.{Bytes}
+use Rattle.romaji_demands.specs.TypingDemand.{Bytes}
 
 -- l is a front part of r, or goes on after r
 abbrev pub Fronts : List ℕ → List ℕ → Type 0

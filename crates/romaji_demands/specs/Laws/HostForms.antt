@@ -9,12 +9,11 @@ use Rattle.std.proofs.Math.Seq.{take-append_seam, take-length, drop-length}
 use Rattle.lxtr_spec.specs.HostNumbers.{host_number, at_front}
 use Rattle.lxtr_spec.specs.Refusals.{unless_refused}
 use Rattle.lxtr_laws.specs.RefusalChains.{stands}
-use Rattle.lxtr_demands.specs.Operations.{Bytes}
 use Rattle.romaji_spec.specs.Pieces.{max_kept}
 use Rattle.romaji_spec.specs.Typing.{state_of, TypingAnswer, refused_by, went_out, type_of, finish_of}
 use Rattle.romaji_spec.specs.HostStates.{state_bytes, kept_bytes, HostTyping, host_typing, host_type_of, host_finish_of}
 use Rattle.romaji_spec.specs.declared.State.{State}
-use Rattle.romaji_demands.specs.TypingDemand.{defined, text_of, room_left, together, AtOnce}
+use Rattle.romaji_demands.specs.TypingDemand.{defined, Bytes, text_of, room_left, together, AtOnce}
 use Rattle.romaji_demands.specs.HostForms.{bytes_of, host_gets, InForm, HostAtOnce, HostForms}
 use Rattle.romaji_demands.specs.Laws.FrontParts.{bytes_before, bytes_after}
 use Rattle.romaji_demands.specs.Laws.Typing.{typing_demand}

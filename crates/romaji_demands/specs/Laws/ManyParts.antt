@@ -8,10 +8,9 @@ use Rattle.std.proofs.Math.Logic.{⊎_elim}
 use mathlib.Core.List.{List, [], ◌∷◌, ◌++◌, append_assoc}
 use Rattle.lxtr_spec.specs.Refusals.{unless_refused}
 use Rattle.lxtr_laws.specs.RefusalChains.{stands}
-use Rattle.lxtr_demands.specs.Operations.{Bytes}
 use Rattle.romaji_spec.specs.Typing.{kept_in, state_of, TypingAnswer, refused_by, went_out}
 use Rattle.romaji_spec.specs.declared.State.{State}
-use Rattle.romaji_demands.specs.TypingDemand.{Program, defined, text_of, TypingDemand, room_left, together, AtOnce, all_of, as_one, parts_typed, TypingInManyParts, FinishingAfterParts}
+use Rattle.romaji_demands.specs.TypingDemand.{Program, defined, Bytes, text_of, TypingDemand, room_left, together, AtOnce, all_of, as_one, parts_typed, TypingInManyParts, FinishingAfterParts}
 use Rattle.romaji_demands.specs.Laws.FrontParts.{bytes_before, bytes_after}
 use Rattle.romaji_demands.specs.Laws.Typing.{typing_demand}
 use Rattle.romaji_demands.specs.Laws.Outcomes.{Refusal, GoneOut, FitsBehind, outcome, type_cut, type_demanded}

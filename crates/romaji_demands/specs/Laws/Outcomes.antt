@@ -5,12 +5,11 @@ use Rattle.std.proofs.Common.{arith, sym, ◌∙◌, inl, inr, ⊎_elim}
 use Rattle.std.proofs.Math.Decide.{dec_lt}
 use Rattle.lxtr_spec.specs.Sets.{PairSet}
 use Rattle.lxtr_spec.specs.Meaning.{Longer}
-use Rattle.lxtr_demands.specs.Operations.{Bytes}
 use Rattle.romaji_spec.specs.Pieces.{max_kept, Piece, outgoing}
 use Rattle.romaji_spec.specs.Typing.{TypingAnswer, refused_by, went_out}
 use Rattle.romaji_spec.specs.declared.State.{State}
 use Rattle.romaji_demands.specs.Cuts.{joined, CutInto, Never}
-use Rattle.romaji_demands.specs.TypingDemand.{Program, Ready, RefusedBy, Answers, text_of, TypingDemand}
+use Rattle.romaji_demands.specs.TypingDemand.{Program, Ready, RefusedBy, Bytes, Answers, text_of, TypingDemand}
 use Rattle.romaji_demands.specs.Laws.TableRefusals.{refusal_above_0, decided}
 use Rattle.romaji_demands.specs.Laws.Typing.{typing_demand}
 

@@ -5,12 +5,11 @@ use Rattle.std.proofs.Common.{sym, ap, ◌∙◌, ⊎_elim, append_assoc, append
 use Rattle.std.proofs.Math.Seq.{take-append_seam}
 use Rattle.lxtr_spec.specs.Sets.{PairSet}
 use Rattle.lxtr_spec.specs.Meaning.{Longer}
-use Rattle.lxtr_demands.specs.Operations.{Bytes}
 use Rattle.romaji_spec.specs.Pieces.{max_kept, Piece}
 use Rattle.romaji_spec.specs.Typing.{kept_in, state_of, TypingAnswer}
 use Rattle.romaji_spec.specs.declared.State.{State}
 use Rattle.romaji_demands.specs.Cuts.{joined, CutInto, Never}
-use Rattle.romaji_demands.specs.TypingDemand.{Program, defined, Ready, Answers, text_of, TypingDemand, room_left, AtOnce, TypingInParts, FinishingAfterTyping}
+use Rattle.romaji_demands.specs.TypingDemand.{Program, defined, Ready, Bytes, Answers, text_of, TypingDemand, room_left, AtOnce, TypingInParts, FinishingAfterTyping}
 use Rattle.romaji_demands.specs.Laws.FrontParts.{bytes_before, bytes_after}
 use Rattle.romaji_demands.specs.Laws.Pieces.{longer_front}
 use Rattle.romaji_demands.specs.Laws.Cuts.{cut_then}

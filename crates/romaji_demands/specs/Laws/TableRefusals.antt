@@ -1,12 +1,13 @@
 -- What is refused of image and table, by the set of pairs: 1 to 12 where the bytes are no image, 24 by the highest value, 25 by the
 -- empty key. Texts lie one after the other, so if the text of the highest value is whole, all are.
-use Rattle.std.specs.Prelude.{ℕ, suc, ◌≤◌, ◌<◌, ◌≡◌, ◌≢◌, ◌⊎◌, ◌↔◌, Bool, true, false, length}
+use Rattle.std.specs.Prelude.{ℕ, suc, ◌<◌, ◌≡◌, ◌≢◌, ◌⊎◌, Bool, true, false, length}
 use Rattle.std.proofs.Common.{arith, sym, ◌∙◌}
 use Rattle.std.proofs.Math.Decide.{ℕ_discrete}
 use Rattle.std.proofs.Math.Path.{refl}
 use Rattle.std.proofs.Math.Logic.{inl, inr}
 use mathlib.Core.List.{List, []}
 use Rattle.std.proofs.Math.Option.{Option, some, none}
+use Rattle.std.proofs.lemmas.Bool.{false≢true}
 use borrow.Author.Tests.{ltb-true, ltb-false, lt-ltb, le-ltb}
 use Rattle.lxtr_spec.specs.Labels.{labels_of, labels_from}
 use Rattle.lxtr_spec.specs.Refusals.{refuse_if, first_refusal, image_refusal, check_of}
@@ -16,34 +17,36 @@ use Rattle.lxtr_spec.specs.Meaning.{HighestIn}
 use Rattle.lxtr_laws.specs.RefusalChains.{first_stands}
 use Rattle.lxtr_demands.specs.Laws.Demand2.{demand2}
 use Rattle.lxtr_demands.specs.Laws.Demand3.{demand3}
-use Rattle.lxtr_demands.specs.Laws.HighestValue.{highest_value, holds_of_some, holds_of_none}
+use Rattle.lxtr_demands.specs.Laws.HighestValue.{highest_value}
 use Rattle.romaji_spec.specs.KanaTables.{text_end, text_at, text_cut, table_short}
 use Rattle.romaji_spec.specs.Typing.{is_value, has_empty_key, table_refusal}
 use Rattle.romaji_laws.specs.TextPlaces.{text_rises}
 use Rattle.romaji_demands.specs.TypingDemand.{TableWhole, Ready, RefusedBy, image_wrong, is_table_short, empty_key}
 
--- a text that is not whole; so are those after it
-short_rises : (kana : List ℕ) (v w : ℕ) → v ≤ w → table_short kana (some v) ≡ true → table_short kana (some w) ≡ true
-unfolding table_short text_cut text_at
-short_rises kana v w l e = lt-ltb (length kana) (text_end kana (text_at kana w)) (omega (arith, text_rises kana (suc v) (suc w) (omega arith), ltb-true (length kana) (text_end kana (text_at kana v)) e))
-
 -- the table against the highest value
-module _ (kana : List ℕ) {d : PairSet} (h : Option ℕ) (is : HighestIn d h) where
-  table_whole : (table_short kana h ≡ false) ↔ TableWhole kana d
+module _ (kana : List ℕ) (d : PairSet) where
+  whole_passes : (h : Option ℕ) → HighestIn d h → TableWhole kana d → table_short kana h ≡ false
   unfolding table_short text_cut text_at
-  table_whole =
-      let all = holds_of_none (table_short kana) refl (short_rises kana) h is in (
-        λ e k v has. ltb-false (length kana) (text_end kana (text_at kana v)) (all.0 e k v has),
-        λ whole. all.1 (λ k v has. le-ltb (length kana) (text_end kana (text_at kana v)) (whole k v has)),
-      )
+  whole_passes none is whole = refl
+  whole_passes (some w) is whole = let (k, has) = is.is w refl in le-ltb (length kana) (text_end kana (text_at kana w)) (whole k w has)
 
-  some_short : (table_short kana h ≡ true) ↔ ((k : List ℕ) × (v : ℕ) × Has d k v × (length kana < text_at kana (suc v)))
+  short_refused : (h : Option ℕ) → HighestIn d h → (k : List ℕ) (v : ℕ) → Has d k v → length kana < text_at kana (suc v) → table_short kana h ≡ true
   unfolding table_short text_cut text_at
-  some_short =
-      let one = holds_of_some (table_short kana) refl (short_rises kana) h is in (
-        λ e. let (k, v, has, f) = one.0 e in (k, v, has, ltb-true (length kana) (text_end kana (text_at kana v)) f),
-        λ (k, v, has, short). one.1 (k, v, has, lt-ltb (length kana) (text_end kana (text_at kana v)) short),
-      )
+  short_refused h is k v has short =
+      let (w, e, l) = is.most k v has in
+      rw e (lt-ltb (length kana) (text_end kana (text_at kana w)) (omega (arith, text_rises kana (suc v) (suc w) (omega arith))))
+
+  passes_whole : (h : Option ℕ) → HighestIn d h → table_short kana h ≡ false → TableWhole kana d
+  unfolding table_short text_cut text_at
+  passes_whole h is passes k v has =
+      let (w, e, l) = is.most k v has in
+      omega (arith, text_rises kana (suc v) (suc w) (omega arith), ltb-false (length kana) (text_end kana (text_at kana w)) (rw e at passes))
+
+  -- the highest value's key is one whose text is cut
+  refused_short : (h : Option ℕ) → HighestIn d h → table_short kana h ≡ true → (k : List ℕ) × (v : ℕ) × Has d k v × (length kana < text_at kana (suc v))
+  unfolding table_short text_cut text_at
+  refused_short none is short = absurd (false≢true short)
+  refused_short (some w) is short = let (k, has) = is.is w refl in (k, w, has, ltb-true (length kana) (text_end kana (text_at kana w)) short)
 
 module _ (b kana : List ℕ) where
   -- over an image
@@ -55,17 +58,17 @@ module _ (b kana : List ℕ) where
   unfolding refuse_if is_value
   ready_passes d ready =
       let (h, is) = (highest_value b).some_highest d ready.image in
-      refusal_is d h ready.image is ∙ rw ((table_whole kana h is).1 ready.whole, ready.no_empty)
+      refusal_is d h ready.image is ∙ rw (whole_passes kana d h is ready.whole, ready.no_empty)
 
   pub refused_is : (k : ℕ) → RefusedBy b kana k → table_refusal b kana ≡ k
   unfolding refuse_if is_value table_refusal check_of
   refused_is k (image_wrong n) = first_stands (highest_of b).refusal _ (λ e. n (sym (highest_value b).refusal ∙ e)) ∙ (highest_value b).refusal
   refused_is k (is_table_short d l v image has short) =
       let (h, is) = (highest_value b).some_highest d image in
-      refusal_is d h image is ∙ rw ((some_short kana h is).1 (l, v, has, short))
+      refusal_is d h image is ∙ rw (short_refused kana d h is l v has short)
   refused_is k (empty_key d v image whole has) =
       let (h, is) = (highest_value b).some_highest d image in
-      refusal_is d h image is ∙ rw ((table_whole kana h is).1 whole, has)
+      refusal_is d h image is ∙ rw (whole_passes kana d h is whole, has)
 
   pub refusal_above_0 : (k : ℕ) → RefusedBy b kana k → k ≢ 0
   refusal_above_0 k (image_wrong n) e = n e
@@ -90,8 +93,8 @@ module _ (b kana : List ℕ) where
       by_empty d image whole (some v) e = inl (25, empty_key d v image whole e)
 
       by_table : (d : PairSet) → ImageOf b d → (h : Option ℕ) → HighestIn d h → (t : Bool) → table_short kana h ≡ t → Decision
-      by_table d image h is true e = let (k, v, has, short) = (some_short kana h is).0 e in inl (24, is_table_short d k v image has short)
-      by_table d image h is false e = by_empty d image ((table_whole kana h is).0 e) (d []) refl
+      by_table d image h is true e = let (k, v, has, short) = refused_short kana d h is e in inl (24, is_table_short d k v image has short)
+      by_table d image h is false e = by_empty d image (passes_whole kana d h is e) (d []) refl
 
       by_image : Dec (image_refusal b ≡ 0) → Decision
       by_image (no n) = inl (image_refusal b, image_wrong n)

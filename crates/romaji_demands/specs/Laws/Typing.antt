@@ -8,12 +8,11 @@ use Rattle.lxtr_spec.specs.Refusals.{refuse_if, unless_refused}
 use Rattle.lxtr_spec.specs.Sets.{PairSet}
 use Rattle.lxtr_spec.specs.Meaning.{Longer}
 use Rattle.lxtr_laws.specs.RefusalChains.{stands}
-use Rattle.lxtr_demands.specs.Operations.{Bytes}
 use Rattle.romaji_spec.specs.Pieces.{Piece, Cutting, outgoing, cut}
 use Rattle.romaji_spec.specs.Typing.{kept_in, table_refusal, room_refusal, refused_by, went_out, answered, convert, type_of, finish_of}
 use Rattle.romaji_spec.specs.declared.State.{State}
 use Rattle.romaji_demands.specs.Cuts.{CutInto, Never, FinishedAs}
-use Rattle.romaji_demands.specs.TypingDemand.{Ready, RefusedBy, Answers, text_of, TypingDemand, defined}
+use Rattle.romaji_demands.specs.TypingDemand.{Ready, RefusedBy, Bytes, Answers, text_of, TypingDemand, defined}
 use Rattle.romaji_demands.specs.Laws.Cuts.{one_cut}
 use Rattle.romaji_demands.specs.Laws.Found.{front_length_lem}
 use Rattle.romaji_demands.specs.Laws.CutTexts.{KeptBack, typing_keeps, finishing_keeps, cut_is}

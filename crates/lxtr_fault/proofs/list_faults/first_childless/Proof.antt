@@ -8,10 +8,10 @@ use Rattle.lxtr_laws.specs.Scans.{NoneSoFar, scan_start, scan_first, scan_next, 
 use Rattle.lxtr_fault.proofs.list_faults.first_childless.Statement.{statement}
 use Rattle.lxtr_fault.proofs.list_faults.first_childless.Tie as tie
 
-abbrev invariant-loop : tie.invariant-loop
+abbrev invariant-loop : tie.invariant-loop-s
 invariant-loop image slots s₀ s = (slots ≡ slot_count image) × NoneSoFar (childless image) s slots
 
-abbrev decreases-loop : tie.decreases-loop
+abbrev decreases-loop : tie.decreases-loop-s
 decreases-loop image slots s₀ s = slots - s
 
 pub first_childless_spec : {M : Type 1} → statement M

@@ -9,10 +9,10 @@ use Rattle.lxtr_laws.specs.Scans.{NoneSoFar, scan_start, scan_hit, scan_next, sc
 use Rattle.lxtr_fault.proofs.list_faults.has_entry.Statement.{statement}
 use Rattle.lxtr_fault.proofs.list_faults.has_entry.Tie as tie
 
-abbrev invariant-loop : tie.invariant-loop
+abbrev invariant-loop : tie.invariant-loop-i
 invariant-loop image p s width i₀ i = (width ≡ list_width image p) × NoneSoFar (is_entry image p s) i width
 
-abbrev decreases-loop : tie.decreases-loop
+abbrev decreases-loop : tie.decreases-loop-i
 decreases-loop image p s width i₀ i = width - i
 
 pub has_entry_spec : {M : Type 1} → statement M

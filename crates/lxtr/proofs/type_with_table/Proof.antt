@@ -3,11 +3,11 @@ use borrow.Author.Rules.{rules}
 use mathlib.Core.Path.{sym}
 use native.Mathlib.Omega.{arith}
 use lib.Seq.{length-take-le}
-use Rattle.lxtr.proofs.run_with_table.Statement.{statement}
-use Rattle.lxtr.proofs.run_with_table.Tie as tie
+use Rattle.lxtr.proofs.type_with_table.Statement.{statement}
+use Rattle.lxtr.proofs.type_with_table.Tie as tie
 
-pub run_with_table_spec : {M : Type 1} → statement M
-run_with_table_spec =
+pub type_with_table_spec : {M : Type 1} → statement M
+type_with_table_spec =
     tie.close
     (tie.spec
     (λ c κs. search rules)
