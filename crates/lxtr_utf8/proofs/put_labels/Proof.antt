@@ -19,7 +19,7 @@ decreases-loop text room₀ at₀ i₀ room at i = length text - at
 abbrev read : tie.After-struct_known-1 invariant-loop decreases-loop → tie.After-first_character-next invariant-loop decreases-loop
 read c = c.before.before.before.before.before
 
-abbrev loop : tie.After-first_character-next invariant-loop decreases-loop → tie.At-loop invariant-loop decreases-loop
+abbrev loop : tie.After-first_character-next invariant-loop decreases-loop → tie.At-loop-at invariant-loop decreases-loop
 loop c = c.before.before.before
 
 pub put_labels_spec : {M : Type 1} → statement M

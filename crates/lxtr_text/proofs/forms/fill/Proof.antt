@@ -7,10 +7,10 @@ use Rattle.lxtr_text.specs.FormLoops.{FormSoFar, form_start, form_place, form_le
 use Rattle.lxtr_text.proofs.forms.fill.Statement.{statement}
 use Rattle.lxtr_text.proofs.forms.fill.Tie as tie
 
-abbrev invariant-loop : tie.invariant-loop
+abbrev invariant-loop : tie.invariant-loop-i
 invariant-loop form numbers line₀ end₀ next₀ i₀ line end next i = FormSoFar line₀ form numbers line end next i
 
-abbrev decreases-loop : tie.decreases-loop
+abbrev decreases-loop : tie.decreases-loop-i
 decreases-loop form numbers line₀ end₀ next₀ i₀ line end next i = length form - i
 
 pub fill_spec : {M : Type 1} → statement M

@@ -13,7 +13,7 @@ digit_of_spec =
     (tie.spec
     (λ c. search rules)
     (λ c. search rules)
-    (λ c. rw (lt-ltb _ _ c.if1.true) refl)
+    (λ c. rw (lt-ltb _ _ c.if-d-lt10.true) refl)
     (λ c. search rules)
     (λ c. search rules)
-    (λ c. rw (le-ltb _ _ c.if1.false) refl))
+    (λ c. rw (le-ltb _ _ c.if-d-lt10.false) refl))

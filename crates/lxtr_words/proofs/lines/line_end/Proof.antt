@@ -6,10 +6,10 @@ use Rattle.lxtr_words.specs.TextLines.{LineSoFar, line_start, line_feed_lem, lin
 use Rattle.lxtr_words.proofs.lines.line_end.Statement.{statement}
 use Rattle.lxtr_words.proofs.lines.line_end.Tie as tie
 
-abbrev invariant-loop : tie.invariant-loop
+abbrev invariant-loop : tie.invariant-loop-end
 invariant-loop text at end₀ end = LineSoFar text at end
 
-abbrev decreases-loop : tie.decreases-loop
+abbrev decreases-loop : tie.decreases-loop-end
 decreases-loop text at end₀ end = length text - end
 
 pub line_end_spec : {M : Type 1} → statement M

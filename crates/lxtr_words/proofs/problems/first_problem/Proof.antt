@@ -6,10 +6,10 @@ use Rattle.lxtr_words.specs.Problems.{NoneBefore, problem_start, problem_here, p
 use Rattle.lxtr_words.proofs.problems.first_problem.Statement.{statement}
 use Rattle.lxtr_words.proofs.problems.first_problem.Tie as tie
 
-abbrev invariant-loop : tie.invariant-loop
+abbrev invariant-loop : tie.invariant-loop-at
 invariant-loop text line₀ at₀ line at = NoneBefore text line at
 
-abbrev decreases-loop : tie.decreases-loop
+abbrev decreases-loop : tie.decreases-loop-at
 decreases-loop text line₀ at₀ line at = length text + 1 - at
 
 pub first_problem_spec : {M : Type 1} → statement M

@@ -6,10 +6,10 @@ use Rattle.lxtr_words.specs.KeyWriting.{this_right, Summed, sum_start, sum_next,
 use Rattle.lxtr_words.proofs.writing.list_length.Statement.{statement}
 use Rattle.lxtr_words.proofs.writing.list_length.Tie as tie
 
-abbrev invariant-loop : tie.invariant-loop
+abbrev invariant-loop : tie.invariant-loop-i
 invariant-loop text starts total₀ i₀ total i = Summed text starts total i
 
-abbrev decreases-loop : tie.decreases-loop
+abbrev decreases-loop : tie.decreases-loop-i
 decreases-loop text starts total₀ i₀ total i = length starts - i
 
 pub list_length_spec : {M : Type 1} → statement M

@@ -6,10 +6,10 @@ use Rattle.lxtr_words.specs.KeyWriting.{Writing, this_right, writing_start, writ
 use Rattle.lxtr_words.proofs.writing.put_keys.Statement.{statement}
 use Rattle.lxtr_words.proofs.writing.put_keys.Tie as tie
 
-abbrev invariant-loop : tie.invariant-loop
+abbrev invariant-loop : tie.invariant-loop-i
 invariant-loop text starts out₀ at₀ i₀ out at i = Writing text starts out₀ out at i
 
-abbrev decreases-loop : tie.decreases-loop
+abbrev decreases-loop : tie.decreases-loop-i
 decreases-loop text starts out₀ at₀ i₀ out at i = length starts - i
 
 pub put_keys_spec : {M : Type 1} → statement M
