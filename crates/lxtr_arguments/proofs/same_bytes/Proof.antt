@@ -7,10 +7,10 @@ use Rattle.lxtr_arguments.specs.Names.{SameSoFar, other_length, same_start, othe
 use Rattle.lxtr_arguments.proofs.same_bytes.Statement.{statement}
 use Rattle.lxtr_arguments.proofs.same_bytes.Tie as tie
 
-abbrev invariant-loop : tie.invariant-loop
+abbrev invariant-loop : tie.invariant-loop-i
 invariant-loop a b i₀ i = SameSoFar a b i
 
-abbrev decreases-loop : tie.decreases-loop
+abbrev decreases-loop : tie.decreases-loop-i
 decreases-loop a b i₀ i = length a - i
 
 pub same_bytes_spec : {M : Type 1} → statement M
@@ -23,7 +23,7 @@ same_bytes_spec =
     (λ c. search same_start)
     (λ c. search rules)
     (λ c. search rules)
-    (λ c. other_byte _ _ _ c.if2.true)
+    (λ c. other_byte _ _ _ c.if-a-i.true)
     (λ c. search rules)
     (λ c. omega arith)
     (λ c. search same_next)

@@ -9,10 +9,10 @@ use Rattle.lxtr_complete.specs.Completing.{PathFilled, path_start, path_next, pa
 use Rattle.lxtr_complete.proofs.fill_path.Statement.{statement}
 use Rattle.lxtr_complete.proofs.fill_path.Tie as tie
 
-abbrev invariant-loop : tie.invariant-loop
+abbrev invariant-loop : tie.invariant-loop-i
 invariant-loop query path₀ count i₀ path i = (count ≡ length (labels_of query)) × PathFilled (labels_of query) i path₀ path
 
-abbrev decreases-loop : tie.decreases-loop
+abbrev decreases-loop : tie.decreases-loop-i
 decreases-loop query path₀ count i₀ path i = count - i
 
 pub fill_path_spec : {M : Type 1} → statement M

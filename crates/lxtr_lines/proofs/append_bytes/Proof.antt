@@ -8,10 +8,10 @@ use Rattle.lxtr_lines.specs.KeyLines.{PiecesSoFar, digit_pieces, pieces_start, p
 use Rattle.lxtr_lines.proofs.append_bytes.Statement.{statement}
 use Rattle.lxtr_lines.proofs.append_bytes.Tie as tie
 
-abbrev invariant-loop : tie.invariant-loop
+abbrev invariant-loop : tie.invariant-loop-i
 invariant-loop line₀ at bytes end₀ i₀ line end i = PiecesSoFar digit_pieces line₀ at bytes 0 i line end
 
-abbrev decreases-loop : tie.decreases-loop
+abbrev decreases-loop : tie.decreases-loop-i
 decreases-loop line₀ at bytes end₀ i₀ line end i = length bytes - i
 
 pub append_bytes_spec : {M : Type 1} → statement M

@@ -8,10 +8,10 @@ use Rattle.lxtr_lines.specs.KeyLines.{PiecesSoFar, byte_pieces, pieces_start, pi
 use Rattle.lxtr_lines.proofs.append_word.Statement.{statement}
 use Rattle.lxtr_lines.proofs.append_word.Tie as tie
 
-abbrev invariant-loop : tie.invariant-loop
+abbrev invariant-loop : tie.invariant-loop-i
 invariant-loop line₀ at word end₀ i₀ line end i = PiecesSoFar byte_pieces line₀ at word 0 i line end
 
-abbrev decreases-loop : tie.decreases-loop
+abbrev decreases-loop : tie.decreases-loop-i
 decreases-loop line₀ at word end₀ i₀ line end i = length word - i
 
 pub append_word_spec : {M : Type 1} → statement M

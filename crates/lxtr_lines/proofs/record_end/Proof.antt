@@ -13,4 +13,4 @@ record_end_spec =
     (tie.spec
     (λ c κs. (whole_record _ _ c.before.requires).key.starts)
     (λ c. omega (arith, (whole_record _ _ c.before.before.requires).ends))
-    (λ c. ap (λ (n : ℕ). n + 4) c.next-key.ensures))
+    (λ c. ap (λ (n : ℕ). n + 4) c.next_key.ensures))

@@ -10,10 +10,10 @@ use Rattle.lxtr_why.specs.ReasonReturns.{too_long, walk_stops, walk_ends}
 use Rattle.lxtr_why.proofs.reason.Statement.{statement}
 use Rattle.lxtr_why.proofs.reason.Tie as tie
 
-abbrev invariant-loop : tie.invariant-loop
+abbrev invariant-loop : tie.invariant-loop-i
 invariant-loop image query count n₀ i₀ n i = (count ≡ length (labels_of query)) × (count ≤ max_labels) × Walked image (labels_of query) i n
 
-abbrev decreases-loop : tie.decreases-loop
+abbrev decreases-loop : tie.decreases-loop-i
 decreases-loop image query count n₀ i₀ n i = count - i
 
 pub reason_spec : {M : Type 1} → statement M

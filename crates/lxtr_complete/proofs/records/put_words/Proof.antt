@@ -11,10 +11,10 @@ use Rattle.lxtr_laws.specs.Overlays.{WordsIn, words_start, words_next, words_end
 use Rattle.lxtr_complete.proofs.records.put_words.Statement.{statement}
 use Rattle.lxtr_complete.proofs.records.put_words.Tie as tie
 
-abbrev invariant-loop : tie.invariant-loop
+abbrev invariant-loop : tie.invariant-loop-i
 invariant-loop path len room₀ at i₀ room i = (i ≤ len) × (length room ≡ length room₀) × WordsIn be_words room₀ path at i room
 
-abbrev decreases-loop : tie.decreases-loop
+abbrev decreases-loop : tie.decreases-loop-i
 decreases-loop path len room₀ at i₀ room i = len - i
 
 pub put_words_spec : {M : Type 1} → statement M

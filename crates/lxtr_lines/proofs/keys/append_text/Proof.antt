@@ -8,10 +8,10 @@ use Rattle.lxtr_lines.specs.KeyLines.{PiecesSoFar, shown_pieces, pieces_start, p
 use Rattle.lxtr_lines.proofs.keys.append_text.Statement.{statement}
 use Rattle.lxtr_lines.proofs.keys.append_text.Tie as tie
 
-abbrev invariant-loop : tie.invariant-loop
+abbrev invariant-loop : tie.invariant-loop-i
 invariant-loop line₀ at labels count end₀ i₀ line end i = PiecesSoFar shown_pieces line₀ at (labels_of labels) 0 i line end
 
-abbrev decreases-loop : tie.decreases-loop
+abbrev decreases-loop : tie.decreases-loop-i
 decreases-loop line₀ at labels count end₀ i₀ line end i = count - i
 
 pub append_text_spec : {M : Type 1} → statement M

@@ -11,10 +11,10 @@ use Rattle.lxtr_search.specs.Kept.{last_start, last_next}
 use Rattle.lxtr_search.proofs.matches.longest_match.Statement.{statement}
 use Rattle.lxtr_search.proofs.matches.longest_match.Tie as tie
 
-abbrev invariant-loop : tie.invariant-loop
+abbrev invariant-loop : tie.invariant-loop-i
 invariant-loop image query labels longest₀ n₀ i₀ longest n i = (labels ≡ length (counted query)) × Walked image (counted query) i n × (longest ≡ last_length (matches_to image query i))
 
-abbrev decreases-loop : tie.decreases-loop
+abbrev decreases-loop : tie.decreases-loop-i
 decreases-loop image query labels longest₀ n₀ i₀ longest n i = labels - i
 
 pub longest_match_spec : {M : Type 1} → statement M

@@ -12,12 +12,12 @@ use Rattle.lxtr_search.specs.Kept.{filled, filled_start, filled_next, filled_roo
 use Rattle.lxtr_search.proofs.matches.put_matches.Statement.{statement}
 use Rattle.lxtr_search.proofs.matches.put_matches.Tie as tie
 
-abbrev invariant-loop : tie.invariant-loop
+abbrev invariant-loop : tie.invariant-loop-i
 invariant-loop image query lengths₀ values₀ labels count₀ n₀ i₀ lengths values count n i =
     (labels ≡ length (counted query)) × Walked image (counted query) i n
     × (filled count lengths values ≡ prefixes_answer 0 (matches_to image query i))
 
-abbrev decreases-loop : tie.decreases-loop
+abbrev decreases-loop : tie.decreases-loop-i
 decreases-loop image query lengths₀ values₀ labels count₀ n₀ i₀ lengths values count n i = labels - i
 
 pub put_matches_spec : {M : Type 1} → statement M

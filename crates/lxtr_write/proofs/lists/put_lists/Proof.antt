@@ -10,5 +10,5 @@ put_lists_spec =
     (tie.spec
     (λ c κs. (search rules, refl))
     (λ c κs. (search rules, (search rules, (search rules, search rules))))
-    (λ c. c.before.before.put_linked.auto.0)
+    (λ c. c.before.before.put_linked.auto.out)
     (λ c. c.before.before.put_linked.ensures))
