@@ -5,10 +5,10 @@ use Rattle.lxtr_place.specs.AllKeys.{Starting, starting_start, starting_cast, st
 use Rattle.lxtr_place.proofs.put_starts.Statement.{statement}
 use Rattle.lxtr_place.proofs.put_starts.Tie as tie
 
-abbrev invariant-loop : tie.invariant-loop
+abbrev invariant-loop : tie.invariant-loop-i
 invariant-loop keys starts₀ count at₀ i₀ starts at i = Starting keys starts₀ starts at i
 
-abbrev decreases-loop : tie.decreases-loop
+abbrev decreases-loop : tie.decreases-loop-i
 decreases-loop keys starts₀ count at₀ i₀ starts at i = count - i
 
 pub put_starts_spec : {M : Type 1} → statement M

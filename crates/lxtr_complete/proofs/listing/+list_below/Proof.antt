@@ -34,11 +34,11 @@ abbrev told : ℕ → lts.Claims
 told t =
     (base-of-reads.Asked, base-of-reads.Learnt, offset-at-reads.Asked, offset-at-reads.Learnt, ends-of-reads.Asked, ends-of-reads.Learnt, list-end-reads.Asked, list-end-reads.Learnt, entry-at-reads.Asked, entry-at-reads.Learnt, below t, list_below.Post)
 
-abbrev Inv : lts.invariant-loop
+abbrev Inv : lts.invariant-loop-j
 Inv image left n path₀ room₀ at count₀ len base end ends j₀ here₀ path room count j here =
     ListedSoFar image left n len end j₀ j path₀ path (state room₀ here₀ count₀) (state room here count)
 
-abbrev μ : lts.decreases-loop
+abbrev μ : lts.decreases-loop-j
 μ image left n path₀ room₀ at count₀ len base end ends j₀ here₀ path room count j here = end - j
 
 -- The points of the code that facts are taken from, and the way from each back to the one before it.
@@ -47,19 +47,19 @@ module _ (t : ℕ) where
   Entry = lts.Start (told t) (at t) list_below.Post Inv μ
 
   abbrev Some : Type 0
-  Some = lts.Else1 (told t) (at t) list_below.Post Inv μ
+  Some = lts.Else-left-eq0 (told t) (at t) list_below.Post Inv μ
 
   abbrev Read : Type 0
-  Read = lts.After-offset-at2 (told t) (at t) list_below.Post Inv μ
+  Read = lts.After-offset_at (told t) (at t) list_below.Post Inv μ
 
   abbrev Loop : Type 0
-  Loop = lts.At-loop (told t) (at t) list_below.Post Inv μ
+  Loop = lts.At-loop-j (told t) (at t) list_below.Post Inv μ
 
   abbrev Chosen : Type 0
-  Chosen = lts.After-entry-at (told t) (at t) list_below.Post Inv μ
+  Chosen = lts.After-entry_at-entry (told t) (at t) list_below.Post Inv μ
 
   abbrev Asked : Type 0
-  Asked = lts.After-list-below-arg3 (told t) (at t) list_below.Post Inv μ
+  Asked = lts.After-list_below-arg-in-loop-j-2-1 (told t) (at t) list_below.Post Inv μ
 
   abbrev entry : Some → Entry
   entry c = c.before.before.before
@@ -76,7 +76,7 @@ module _ (t : ℕ) where
   abbrev chosen : Asked → Chosen
   chosen c = c.before.before.before
 
-  abbrev gone : lts.After-slice-known3 (told t) (at t) list_below.Post Inv μ → Loop
+  abbrev gone : lts.After-slice_known-in-loop-j-1 (told t) (at t) list_below.Post Inv μ → Loop
   gone c = loop (chosen c.before.before.before)
 
   -- from the loop back to the entry

@@ -6,10 +6,10 @@ use Rattle.lxtr_place.specs.GroupLoops.{Running, running_start, running_turn, ru
 use Rattle.lxtr_place.proofs.groups.run_of.Statement.{statement}
 use Rattle.lxtr_place.proofs.groups.run_of.Tie as tie
 
-abbrev invariant-loop : tie.invariant-loop
+abbrev invariant-loop : tie.invariant-loop-i
 invariant-loop keys g x at₀ i₀ at i = Running keys g x at i
 
-abbrev decreases-loop : tie.decreases-loop
+abbrev decreases-loop : tie.decreases-loop-i
 decreases-loop keys g x at₀ i₀ at i = g.count - i
 
 pub run_of_spec : {M : Type 1} → statement M

@@ -7,10 +7,10 @@ use Rattle.lxtr_place.specs.GroupLoops.{Searching, search_start, mid_whole, sear
 use Rattle.lxtr_place.proofs.groups.skip_to.Statement.{statement}
 use Rattle.lxtr_place.proofs.groups.skip_to.Tie as tie
 
-abbrev invariant-loop : tie.invariant-loop
+abbrev invariant-loop : tie.invariant-loop-low
 invariant-loop keys starts g x low₀ high₀ low high = Searching keys g x low high
 
-abbrev decreases-loop : tie.decreases-loop
+abbrev decreases-loop : tie.decreases-loop-low
 decreases-loop keys starts g x low₀ high₀ low high = high - low
 
 pub skip_to_spec : {M : Type 1} → statement M

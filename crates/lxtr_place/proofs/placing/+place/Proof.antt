@@ -50,11 +50,11 @@ told t = (
   place.Post,
 )
 
-abbrev Inv : lts.invariant-loop
+abbrev Inv : lts.invariant-loop-j
 Inv keys starts labels guesses codes order work₀ slots free₀ lowest₀ room₀ left p g count base j₀ work free lowest room j =
     Going slots (code_by labels codes) (label_by labels order) left (group_of keys g) count base work₀ room₀ room j work × FreeMap slots work free lowest
 
-abbrev μ : lts.decreases-loop
+abbrev μ : lts.decreases-loop-j
 μ keys starts labels guesses codes order work₀ slots free₀ lowest₀ room₀ left p g count base j₀ work free lowest room j = count - j
 
 -- The points of the code that facts are taken from, and the way from each back to an earlier one.
@@ -64,27 +64,27 @@ module _ (t : ℕ) where
   Entry = lts.Start (told t) (at t) place.Post Inv μ
 
   abbrev Told : Type 0
-  Told = lts.After-slice-known3 (told t) (at t) place.Post Inv μ
+  Told = lts.After-slice_known-3-1 (told t) (at t) place.Post Inv μ
 
   -- the codes are in the room, the slot is settled, its base is known
   abbrev Coded : Type 0
-  Coded = lts.After-child-codes (told t) (at t) place.Post Inv μ
+  Coded = lts.After-child_codes-count (told t) (at t) place.Post Inv μ
 
   abbrev Settled : Type 0
-  Settled = lts.After-settle-group (told t) (at t) place.Post Inv μ
+  Settled = lts.After-settle_group-fit (told t) (at t) place.Post Inv μ
 
   abbrev Based : Type 0
-  Based = lts.After-known-told (told t) (at t) place.Post Inv μ
+  Based = lts.In-Is (told t) (at t) place.Post Inv μ
 
   -- the loop, the turn of a child, its call of `place`, and the answer
   abbrev Loop : Type 0
-  Loop = lts.At-loop (told t) (at t) place.Post Inv μ
+  Loop = lts.At-loop-j (told t) (at t) place.Post Inv μ
 
   abbrev Turn : Type 0
-  Turn = lts.Then2 (told t) (at t) place.Post Inv μ
+  Turn = lts.Then-code-ne0 (told t) (at t) place.Post Inv μ
 
   abbrev Asked : Type 0
-  Asked = lts.After-place-arg4 (told t) (at t) place.Post Inv μ
+  Asked = lts.After-place-arg-then-code-ne0-3-1 (told t) (at t) place.Post Inv μ
 
   abbrev Answered : Type 0
   Answered = lts.After-place (told t) (at t) place.Post Inv μ
@@ -105,7 +105,7 @@ module _ (t : ℕ) where
   abbrev turn : Asked → Turn
   turn c = let args = c.before.before.before in args.before.before.before
 
-  abbrev answered : lts.Then3 (told t) (at t) place.Post Inv μ → Answered
+  abbrev answered : lts.Then-not-place (told t) (at t) place.Post Inv μ → Answered
   answered c = let back = c.before.before.before.before in back.before.before.before
 
   -- what is known at the entry, and in the loop

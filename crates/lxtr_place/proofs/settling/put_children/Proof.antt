@@ -8,10 +8,10 @@ use Rattle.lxtr_place.specs.SettlingWords.{put_inside, put_next, put_end}
 use Rattle.lxtr_place.proofs.settling.put_children.Statement.{statement}
 use Rattle.lxtr_place.proofs.settling.put_children.Tie as tie
 
-abbrev invariant-loop : tie.invariant-loop
+abbrev invariant-loop : tie.invariant-loop-j
 invariant-loop work₀ p value base codes j₀ work j = StepsSoFar (put_child p value base) codes work₀ work j
 
-abbrev decreases-loop : tie.decreases-loop
+abbrev decreases-loop : tie.decreases-loop-j
 decreases-loop work₀ p value base codes j₀ work j = length codes - j
 
 pub put_children_spec : {M : Type 1} → statement M
