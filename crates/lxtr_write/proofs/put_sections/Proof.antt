@@ -34,4 +34,4 @@ put_sections_spec =
     let header = nodes.before.before.before.before in
     let placed = header.before.before in
     let s = placed.before.before.before.before.requires in
-    image_put _ _ _ _ _ s.0 s.1.1.0 _ _ _ _ _ s.1.1.1 header.put-header.ensures nodes.put-nodes.ensures lists.put-lists.ensures map.put_map.ensures))
+    image_put _ _ _ _ _ s.0 s.1.1.0 _ _ _ _ _ s.1.1.1 header.put_header.ensures nodes.put_nodes.ensures lists.put_lists.ensures map.put_map.ensures))

@@ -8,10 +8,10 @@ use Rattle.lxtr_entries.specs.Reading.{RisesSoFar, rises_start, rises_next, rise
 use Rattle.lxtr_entries.proofs.tables.some_falls.Statement.{statement}
 use Rattle.lxtr_entries.proofs.tables.some_falls.Tie as tie
 
-abbrev invariant-loop : tie.invariant-loop
+abbrev invariant-loop : tie.invariant-loop-i
 invariant-loop table count before₀ i₀ before i = (count ≡ value_count table) × RisesSoFar table count i before
 
-abbrev decreases-loop : tie.decreases-loop
+abbrev decreases-loop : tie.decreases-loop-i
 decreases-loop table count before₀ i₀ before i = count - i
 
 pub some_falls_spec : {M : Type 1} → statement M
