@@ -6,7 +6,7 @@ use lxtr_spec::MAX_LABELS;
 pub const MAX_KEPT: usize = MAX_LABELS - 1;
 
 // What is kept from one call to the next: `count` bytes at the front of `kept`. The others are zero.
-#[derive(Drop)]
+#[derive(Clone, Copy)]
 pub struct State {
     pub count: u8,
     pub kept: [u8; MAX_KEPT],
