@@ -3,11 +3,11 @@
 ghost use Rattle.std.specs.Prelude.{◌≡◌, true};
 ghost use Rattle.lxtr_lines.specs.Records.{is_whole_record};
 
-use libc::{STDIN_FILENO, STDOUT_FILENO};
 use lxtr_build::build;
 use lxtr_bytes::heads::HEAD_LENGTH;
 use lxtr_complete::complete;
 use lxtr_lines::{is_whole_record, number_line, pair_line, record_end};
+use lxtr_output::{STANDARD_INPUT, print};
 use lxtr_spec::refusals::LIST_MALFORMED;
 use lxtr_text::LINE_ROOM;
 
@@ -24,7 +24,7 @@ const LISTING_ROOM: usize = 65536;
 fn print_number(word: &[u8], n: u32) {
     let mut line = [0u8; LINE_ROOM];
     let length = number_line(word, n, &mut line);
-    io::write_all(STDOUT_FILENO, &line[..length]);
+    print(&line[..length]);
 }
 
 fn print_refusal(refusal: u8) {
@@ -36,7 +36,7 @@ fn print_pair(listing: &[u8], at: usize)
 {
     let mut line = [0u8; LINE_ROOM];
     let length = pair_line(listing, at, &mut line);
-    io::write_all(STDOUT_FILENO, &line[..length]);
+    print(&line[..length]);
 }
 
 // Prints the pairs of a listing. Each record lies wholly in it; the test only makes the bounds provable.
@@ -93,7 +93,7 @@ fn build_into(keys: &[u8], work: &mut [u32], out: &mut [u8]) {
 
 fn main() {
     let mut input = [0u8; INPUT_ROOM + 1];
-    let length = io::read_full(STDIN_FILENO, &mut input);
+    let length = io::read_full(STANDARD_INPUT, &mut input);
     if INPUT_ROOM < length {
         print_refusal(LIST_MALFORMED);
         return;

@@ -3,7 +3,7 @@
 mod makers; // build, keys
 mod draw; // draw
 
-ghost use Rattle.std.specs.Prelude.{◌*◌, ◌≤◌, length};
+ghost use Rattle.std.specs.Prelude.{◌*◌, ◌≤◌, length, IfSome};
 
 use crate::draw::draw;
 use crate::makers::{build, keys};
@@ -16,6 +16,7 @@ use lxtr_messages::{
 };
 use lxtr_typing::type_text;
 use lxtr_utf8::decode;
+use std::env::{Env, FillError};
 
 // Room for the labels of an argument. It has at most 4,096 bytes, and so at most 4,096 labels.
 const QUERY_ROOM: usize = 16384;
@@ -40,15 +41,24 @@ fn search_labels(image: &[u8], asked: Command, room: &[u8], count: usize)
     search(image, asked, &room[..size]);
 }
 
-// Searches for the word that is the third argument.
-fn search_word(image: &[u8], asked: Command) {
-    let mut word = io::buffer();
-    let length = os::arg(3, &mut word);
-    if os::errno() != 0 {
-        say(LONG_ARGUMENT);
-        say(REFUSED);
-        return;
+// Puts an argument at the front of `text`, and returns its length. If it does not fit, or there is none, that is said.
+fn argument(rt: &HostRuntime, place: usize, text: &mut [u8]) -> Option<usize>
+    ensures { IfSome result (λ n. n ≤ length text.new) }
+{
+    if let Ok(size) = rt.arg(place, text) {
+        return Some(size);
     }
+    say(LONG_ARGUMENT);
+    say(REFUSED);
+    None
+}
+
+// Searches for the word that is the third argument.
+fn search_word(rt: &HostRuntime, image: &[u8], asked: Command) {
+    let mut word = io::buffer();
+    let Some(length) = argument(rt, 3, &mut word) else {
+        return;
+    };
     let mut query = [0u8; QUERY_ROOM];
     let decoded = decode(&word[..length], &mut query);
     if decoded.problem != 0 {
@@ -60,56 +70,52 @@ fn search_word(image: &[u8], asked: Command) {
 }
 
 // Types the text that is the fourth argument.
-fn type_argument(image: &[u8], kana: &[u8]) {
+fn type_argument(rt: &HostRuntime, image: &[u8], kana: &[u8]) {
     let mut text = io::buffer();
-    let length = os::arg(4, &mut text);
-    if os::errno() != 0 {
-        say(LONG_ARGUMENT);
-        say(REFUSED);
-        return;
+    if let Some(length) = argument(rt, 4, &mut text) {
+        type_text(image, kana, &text[..length]);
     }
-    type_text(image, kana, &text[..length]);
 }
 
 // Types with the kana table in the file that the third argument names.
-fn type_with_table(image: &[u8]) {
+fn type_with_table(rt: &HostRuntime, image: &[u8]) {
     let mut room = [0u8; FILE_ROOM];
     let mut is_whole = false;
-    let size = load(3, &mut room, &mut is_whole);
+    let size = load(rt, 3, &mut room, &mut is_whole);
     if is_whole {
-        type_argument(image, &room[..size]);
+        type_argument(rt, image, &room[..size]);
     }
 }
 
 // Runs a command on the contents of the file that its first operand names.
-fn run_on(file: &[u8], asked: Command, operands: usize) {
+fn run_on(rt: &HostRuntime, file: &[u8], asked: Command, operands: usize) {
     match asked {
         Command::Check => check(file),
         Command::Draw => draw(file),
-        Command::Build => build(file),
-        Command::Keys => keys(file),
-        Command::TypeText => type_with_table(file),
+        Command::Build => build(rt, file),
+        Command::Keys => keys(rt, file),
+        Command::TypeText => type_with_table(rt, file),
         Command::Complete => {
             if operands < 2 {
                 complete(file, b"");
             } else {
-                search_word(file, asked);
+                search_word(rt, file, asked);
             }
         }
-        _ => search_word(file, asked),
+        _ => search_word(rt, file, asked),
     }
 }
 
-fn run_on_file(asked: Command, operands: usize) {
+fn run_on_file(rt: &HostRuntime, asked: Command, operands: usize) {
     let mut room = [0u8; FILE_ROOM];
     let mut is_whole = false;
-    let size = load(2, &mut room, &mut is_whole);
+    let size = load(rt, 2, &mut room, &mut is_whole);
     if is_whole {
-        run_on(&room[..size], asked, operands);
+        run_on(rt, &room[..size], asked, operands);
     }
 }
 
-fn run(asked: Command, operands: usize) {
+fn run(rt: &HostRuntime, asked: Command, operands: usize) {
     match asked {
         Command::Help => {
             print_usage();
@@ -123,22 +129,24 @@ fn run(asked: Command, operands: usize) {
             say(OTHER_OPERANDS);
             say(REFUSED);
         }
-        _ => run_on_file(asked, operands),
+        _ => run_on_file(rt, asked, operands),
     }
 }
 
 // How many arguments follow the names of the program and of the command.
-fn operand_count() -> usize {
-    let count = os::arg_count();
-    if count < 2 {
-        return 0;
+fn operand_count(rt: &HostRuntime) -> usize {
+    let mut none = [0u8; 0];
+    for count in 0..usize::MAX {
+        if let Err(FillError::NotPresent) = rt.arg(count + 2, &mut none) {
+            return count;
+        }
     }
-    count - 2
+    usize::MAX
 }
 
-fn main() {
+fn main(rt: HostRuntime) {
     let mut name = io::buffer();
-    let length = os::arg(1, &mut name);
-    let operands = operand_count();
-    run(command(&name[..length], operands), operands);
+    let length = rt.arg(1, &mut name).unwrap_or(0);
+    let operands = operand_count(&rt);
+    run(&rt, command(&name[..length], operands), operands);
 }

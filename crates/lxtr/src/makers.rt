@@ -11,24 +11,24 @@ use lxtr_spec::{MAX_KEYS, MAX_LABELS, MAX_SLOTS};
 const WORK_WORDS: usize = 2 * MAX_SLOTS;
 
 // Builds the image of a key list, and writes it to the file that the third argument names.
-pub fn build(keys: &[u8]) {
+pub fn build(rt: &HostRuntime, keys: &[u8]) {
     let mut work = [0u32; WORK_WORDS];
     let mut out = [0u8; LARGEST_FILE];
-    build_in(keys, &mut work, &mut out);
+    build_in(rt, keys, &mut work, &mut out);
 }
 
 // Turns the arrays into slices, of which a part can be lent.
-fn build_in(keys: &[u8], work: &mut [u32; WORK_WORDS], out: &mut [u8; LARGEST_FILE]) {
-    build_into(keys, work, out);
+fn build_in(rt: &HostRuntime, keys: &[u8], work: &mut [u32; WORK_WORDS], out: &mut [u8; LARGEST_FILE]) {
+    build_into(rt, keys, work, out);
 }
 
-fn build_into(keys: &[u8], work: &mut [u32], out: &mut [u8]) {
+fn build_into(rt: &HostRuntime, keys: &[u8], work: &mut [u32], out: &mut [u8]) {
     let built = lxtr_build::build(keys, work, out);
     if built.refusal != 0 {
         refuse(built.refusal);
         return;
     }
-    if save(3, &out[..built.length as usize]) {
+    if save(rt, 3, &out[..built.length as usize]) {
         tell(BYTES, built.length, 0);
         say(WRITTEN);
     }
@@ -47,17 +47,17 @@ fn print_problem(problem: u8, line: usize) {
 }
 
 // Writes the key list of the words of a text to the file that the third argument names.
-pub fn keys(text: &[u8]) {
+pub fn keys(rt: &HostRuntime, text: &[u8]) {
     let mut out = [0u8; LARGEST_FILE];
-    list_in(text, &mut out);
+    list_in(rt, text, &mut out);
 }
 
 // Turns the array into a slice, of which a part can be lent.
-fn list_in(text: &[u8], out: &mut [u8; LARGEST_FILE]) {
-    list_into(text, out);
+fn list_in(rt: &HostRuntime, text: &[u8], out: &mut [u8; LARGEST_FILE]) {
+    list_into(rt, text, out);
 }
 
-fn list_into(text: &[u8], out: &mut [u8]) {
+fn list_into(rt: &HostRuntime, text: &[u8], out: &mut [u8]) {
     let start = lxtr_utf8::mark_length(text);
     let keyed = lxtr_words::key_list(&text[start..], out);
     if keyed.problem != 0 {
@@ -65,7 +65,7 @@ fn list_into(text: &[u8], out: &mut [u8]) {
         say(REFUSED);
         return;
     }
-    if save(3, &out[..keyed.length]) {
+    if save(rt, 3, &out[..keyed.length]) {
         tell(KEYS, printed(keyed.count), 0);
         say(WRITTEN);
     }

@@ -1,10 +1,16 @@
 // Reads whole files into lent room, and writes whole files. System errors are reported on standard error, with the reason.
-ghost use Rattle.std.specs.Prelude.{◌≤◌, length};
+ghost use Rattle.std.specs.Prelude.{◌≤◌, length, IfOk};
 
 use lxtr_bytes::heads::HEAD_LENGTH;
 use lxtr_lines::joined;
 use lxtr_messages::{FAILED, LARGE_FILE, REFUSED, printed, say, tell};
+use lxtr_output::STANDARD_ERROR;
+use lxtr_output::parts::{find, front};
 use lxtr_spec::{MAX_LISTED, MAX_SLOTS};
+use std::env::{Env, FillError};
+use std::fs;
+use std::fs::File;
+use std::io::{Error, Read, Write};
 
 // The size of the largest image: header, nodes, offsets, a child for each slot from 2 up, and code map. No larger file is read or
 // written.
@@ -18,96 +24,172 @@ pub const LARGEST_FILE: usize = 24
 // elements.
 pub const FILE_ROOM: usize = LARGEST_FILE + 1;
 
+// The system's numbers of three errors: no such argument, a name that is too long, and bytes that are not UTF-8.
+const INVALID: i32 = 22;
+
+const NAME_TOO_LONG: i32 = 36;
+
+const NOT_TEXT: i32 = 84;
+
+// Prints the reason of a system error, without its number, which follows in brackets.
+fn print_reason(rt: &HostRuntime, error: Error) {
+    if let Ok(text) = format!(in rt.alloc(); "{error}") {
+        let bytes = text.as_str().as_bytes();
+        io::write_all(STANDARD_ERROR, front(bytes, find(bytes, 0, b'(').saturating_sub(1)));
+    }
+}
+
 // Reports what failed, with the system's reason.
-fn fail(what: &[u8]) {
-    os::fail(what);
+fn fail(rt: &HostRuntime, what: &[u8], error: Error) {
+    io::write_all(STANDARD_ERROR, what);
+    io::write_all(STANDARD_ERROR, b": ");
+    print_reason(rt, error);
+    io::write_all(STANDARD_ERROR, b"\n");
     say(FAILED);
 }
 
 // Reads a file to its end. Returns how many bytes were read, and sets `is_whole` if they are the whole file. Otherwise it reports
-// why not: the file is too large or cannot be read. Reading may have stopped at the end or at an error; one more read tells
-// which.
-fn read_all(fd: i32, path: &[u8], room: &mut [u8; FILE_ROOM], is_whole: &mut bool) -> usize
+// why not: the file is too large or cannot be read.
+fn read_all(rt: &HostRuntime, file: &mut File, path: &[u8], room: &mut [u8; FILE_ROOM], is_whole: &mut bool) -> usize
     ensures { result ≤ length room.new }
 {
     *is_whole = false;
-    let size = io::read_full(fd, room);
-    if size == FILE_ROOM {
-        tell(LARGE_FILE, printed(LARGEST_FILE), 0);
-        say(REFUSED);
-        return size;
+    let mut size: usize = 0;
+    while size < FILE_ROOM {
+        match file.read(&mut room[size..]) {
+            Ok(0) => {
+                *is_whole = true;
+                return size;
+            }
+            Ok(count) => size += count,
+            Err(error) => {
+                fail(rt, path, error);
+                return size;
+            }
+        }
     }
-    let mut more = [0u8; 1];
-    if libc::read(fd, &mut more) < 0 {
-        fail(path);
-        return size;
-    }
-    *is_whole = true;
+    tell(LARGE_FILE, printed(LARGEST_FILE), 0);
+    say(REFUSED);
     size
+}
+
+// The bytes of an argument, put at the front of `path`; a missing one is an error.
+fn argument_length(rt: &HostRuntime, argument: usize, path: &mut [u8]) -> Result<usize, Error>
+    ensures { IfOk result (λ n. n ≤ length path.new) }
+{
+    match rt.arg(argument, path) {
+        Ok(length) => Ok(length),
+        Err(FillError::TooLong) => Err(Error::from_raw_os_error(NAME_TOO_LONG)),
+        Err(FillError::NotPresent) => Err(Error::from_raw_os_error(INVALID)),
+    }
+}
+
+// A file name as text.
+fn as_text<'a>(path: &'a [u8]) -> Result<&'a str, Error> {
+    match str::from_utf8(path) {
+        Ok(text) => Ok(text),
+        Err(_) => Err(Error::from_raw_os_error(NOT_TEXT)),
+    }
+}
+
+// Opens a file for reading.
+fn open(rt: &HostRuntime, path: &[u8]) -> Result<File, Error> {
+    File::open(rt, as_text(path)?)
+}
+
+// Reads the file of that name. Returns what `read_all` returns.
+fn load_named(rt: &HostRuntime, path: &[u8], room: &mut [u8; FILE_ROOM], is_whole: &mut bool) -> usize
+    ensures { result ≤ length room.new }
+{
+    *is_whole = false;
+    match open(rt, path) {
+        Ok(mut file) => read_all(rt, &mut file, path, room, is_whole),
+        Err(error) => {
+            fail(rt, path, error);
+            0
+        }
+    }
 }
 
 // Reads the file that an argument names. Returns what `read_all` returns.
-pub fn load(argument: usize, room: &mut [u8; FILE_ROOM], is_whole: &mut bool) -> usize
+pub fn load(rt: &HostRuntime, argument: usize, room: &mut [u8; FILE_ROOM], is_whole: &mut bool) -> usize
     ensures { result ≤ length room.new }
 {
     *is_whole = false;
     let mut path = io::buffer();
-    let length = os::arg(argument, &mut path);
-    if os::errno() != 0 {
-        fail(b"file name");
-        return 0;
+    match argument_length(rt, argument, &mut path) {
+        Ok(length) => load_named(rt, &path[..length], room, is_whole),
+        Err(error) => {
+            fail(rt, b"file name", error);
+            0
+        }
     }
-    let fd = os::open_read(&path[..length]);
-    if fd < 0 {
-        fail(&path[..length]);
-        return 0;
-    }
-    let size = read_all(fd, &path[..length], room, is_whole);
-    libc::close(fd);
-    size
 }
 
-// Writes a new file through to the disk. If that fails, reports why and removes the file.
-fn write_new(path: &[u8], bytes: &[u8]) -> bool {
-    let fd = os::create(path);
-    if fd < 0 {
-        fail(path);
-        return false;
+// Writes bytes to a file, through to the disk.
+fn write_through(file: &mut File, bytes: &[u8]) -> Result<(), Error> {
+    file.write_all(bytes)?;
+    file.sync_all()
+}
+
+// Creates a file, and writes it through to the disk. If that fails, reports why and removes the file.
+fn write_new(rt: &HostRuntime, path: &[u8], bytes: &[u8]) -> bool {
+    match create(rt, path) {
+        Ok(mut file) => match write_through(&mut file, bytes) {
+            Ok(()) => true,
+            Err(error) => {
+                fail(rt, path, error);
+                remove(rt, path);
+                false
+            }
+        },
+        Err(error) => {
+            fail(rt, path, error);
+            false
+        }
     }
-    let mut is_written = io::write_all(fd, bytes);
-    if is_written {
-        is_written = libc::fsync(fd) == 0;
+}
+
+fn create(rt: &HostRuntime, path: &[u8]) -> Result<File, Error> {
+    File::create_new(rt, as_text(path)?)
+}
+
+// Removes a file, if that can be done.
+fn remove(rt: &HostRuntime, path: &[u8]) {
+    if let Ok(name) = as_text(path) {
+        let _ = fs::remove_file(rt, name);
     }
-    if !is_written {
-        fail(path);
-        os::unlink(path);
-    }
-    libc::close(fd);
-    is_written
+}
+
+fn rename(rt: &HostRuntime, from: &[u8], to: &[u8]) -> Result<(), Error> {
+    fs::rename(rt, as_text(from)?, as_text(to)?)
 }
 
 // Writes the file of that name: to NAME.new, which is then renamed, so that a failure leaves the old file as it was.
-fn replace(path: &[u8], bytes: &[u8]) -> bool {
+fn replace(rt: &HostRuntime, path: &[u8], bytes: &[u8]) -> bool {
     let mut name = io::buffer();
     let length = joined(path, b".new", &mut name);
-    if !write_new(&name[..length], bytes) {
+    if !write_new(rt, &name[..length], bytes) {
         return false;
     }
-    if os::rename(&name[..length], path) < 0 {
-        fail(path);
-        os::unlink(&name[..length]);
-        return false;
+    match rename(rt, &name[..length], path) {
+        Ok(()) => true,
+        Err(error) => {
+            fail(rt, path, error);
+            remove(rt, &name[..length]);
+            false
+        }
     }
-    true
 }
 
 // Writes the file that an argument names. Returns whether it was written.
-pub fn save(argument: usize, bytes: &[u8]) -> bool {
+pub fn save(rt: &HostRuntime, argument: usize, bytes: &[u8]) -> bool {
     let mut path = io::buffer();
-    let length = os::arg(argument, &mut path);
-    if os::errno() != 0 {
-        fail(b"file name");
-        return false;
+    match argument_length(rt, argument, &mut path) {
+        Ok(length) => replace(rt, &path[..length], bytes),
+        Err(error) => {
+            fail(rt, b"file name", error);
+            false
+        }
     }
-    replace(&path[..length], bytes)
 }

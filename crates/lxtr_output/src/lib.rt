@@ -3,7 +3,13 @@
 pub mod parts; // parts of bytes that are never out of bounds
 
 use crate::parts::{behind, find, part};
-use libc::STDOUT_FILENO;
+
+// The system's numbers of the standard streams.
+pub const STANDARD_INPUT: i32 = 0;
+
+pub const STANDARD_OUTPUT: i32 = 1;
+
+pub const STANDARD_ERROR: i32 = 2;
 
 // Where the text of a place starts. Places are counted from 0, and each text ends with a vertical bar.
 fn text_start(texts: &[u8], place: u8) -> usize {
@@ -23,5 +29,5 @@ pub fn text_at<'a>(texts: &'a [u8], place: u8) -> &'a [u8] {
 }
 
 pub fn print(text: &[u8]) {
-    io::write_all(STDOUT_FILENO, text);
+    io::write_all(STANDARD_OUTPUT, text);
 }

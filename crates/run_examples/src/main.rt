@@ -11,9 +11,8 @@ use example_lines::{
     BUILD, CHECK, COMPLETE, CUT, HEADER, IMAGE, LONGEST, LOOKUP, MORE, PREFIXES, ROOM, Request,
     SET, put_bytes, read_request,
 };
-use libc::STDIN_FILENO;
 use lxtr_output::parts::{behind, byte_at, find, front, part};
-use lxtr_output::print;
+use lxtr_output::{STANDARD_INPUT, print};
 
 // Where a command writes its bytes: `image` at the front of the image, `more` after its end, `set` at the position given.
 fn start(request: Request, size: usize) -> usize {
@@ -136,7 +135,7 @@ fn run_script(script: &[u8], image: &mut [u8; ROOM], bytes: &mut [u8; ROOM]) {
 }
 
 fn lend(script: &mut [u8; SCRIPT_ROOM]) {
-    let length = io::read_full(STDIN_FILENO, script);
+    let length = io::read_full(STANDARD_INPUT, script);
     let mut image = [0u8; ROOM];
     let mut bytes = [0u8; ROOM];
     run_script(front(script, length), &mut image, &mut bytes);

@@ -1,7 +1,6 @@
 // What the program prints. The words of all answers are in one literal, because every literal makes the proof of its function
 // longer.
-use libc::STDOUT_FILENO;
-use lxtr_output::{print, text_at};
+use lxtr_output::{STANDARD_OUTPUT, print, text_at};
 
 // The places of the words in the text of `say`.
 pub const END: u8 = 0;
@@ -71,7 +70,7 @@ pub const LISTED: u8 = 30;
 pub const EXACT_AND_PREFIX: u8 = 31;
 
 pub fn print_number(n: u64) {
-    io::print_decimal(STDOUT_FILENO, n);
+    io::print_decimal(STANDARD_OUTPUT, n);
 }
 
 pub fn say(word: u8) {
@@ -126,7 +125,7 @@ pub fn say_refusal(refusal: u8) {
 
 fn print_byte(byte: u8) {
     print(b" ");
-    io::print_hex(STDOUT_FILENO, byte as u64, 2);
+    io::print_hex(STANDARD_OUTPUT, byte as u64, 2);
 }
 
 pub fn print_bytes(bytes: &[u8]) {

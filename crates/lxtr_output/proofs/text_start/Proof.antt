@@ -3,10 +3,10 @@ use borrow.Author.Rules.{rules}
 use Rattle.lxtr_output.proofs.text_start.Statement.{statement}
 use Rattle.lxtr_output.proofs.text_start.Tie as tie
 
-abbrev invariant-loop : tie.invariant-loop
+abbrev invariant-loop : tie.invariant-loop-left
 invariant-loop texts place at₀ left₀ at left = Unit {0}
 
-abbrev decreases-loop : tie.decreases-loop
+abbrev decreases-loop : tie.decreases-loop-left
 decreases-loop texts place at₀ left₀ at left = left
 
 pub text_start_spec : {M : Type 1} → statement M

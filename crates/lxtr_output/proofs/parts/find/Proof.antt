@@ -5,10 +5,10 @@ use lib.ListN.{length}
 use Rattle.lxtr_output.proofs.parts.find.Statement.{statement}
 use Rattle.lxtr_output.proofs.parts.find.Tie as tie
 
-abbrev invariant-loop : tie.invariant-loop
+abbrev invariant-loop : tie.invariant-loop-i
 invariant-loop bytes from byte i₀ i = Unit {0}
 
-abbrev decreases-loop : tie.decreases-loop
+abbrev decreases-loop : tie.decreases-loop-i
 decreases-loop bytes from byte i₀ i = length bytes - i
 
 pub find_spec : {M : Type 1} → statement M
