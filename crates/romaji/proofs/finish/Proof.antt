@@ -9,7 +9,6 @@ unfolding finish_of
 finish_spec =
     tie.close
     (tie.spec
-    (λ c. search rules)
     (λ c κs. search rules)
     (λ c. search rules)
     (λ c. search rules))

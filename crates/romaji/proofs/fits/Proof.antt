@@ -7,10 +7,10 @@ use Rattle.romaji.specs.Counting.{Counted, count_start, count_end, count_stop, c
 use Rattle.romaji.proofs.fits.Statement.{statement}
 use Rattle.romaji.proofs.fits.Tie as tie
 
-abbrev invariant-loop : tie.invariant-loop
+abbrev invariant-loop : tie.invariant-loop-at
 invariant-loop image kana places kept typed keeping room length left₀ at₀ left at = Counted keeping image kana kept typed room length at left
 
-abbrev decreases-loop : tie.decreases-loop
+abbrev decreases-loop : tie.decreases-loop-at
 decreases-loop image kana places kept typed keeping room length left₀ at₀ left at = length - at
 
 pub fits_spec : {M : Type 1} → statement M

@@ -8,7 +8,6 @@ pub has_empty_key_spec : {M : Type 1} → statement M
 has_empty_key_spec =
     tie.close
     (tie.spec
-    (λ c. search rules)
     (λ c κs. search rules)
     (λ c κs. search rules)
     (λ c. search rules)

@@ -7,17 +7,17 @@ use Rattle.romaji.specs.Writing.{Wrote, write_start, write_room, write_next, wri
 use Rattle.romaji.proofs.put_pieces.Statement.{statement}
 use Rattle.romaji.proofs.put_pieces.Tie as tie
 
-abbrev invariant-loop : tie.invariant-loop
+abbrev invariant-loop : tie.invariant-loop-at
 invariant-loop image kana places kept typed keeping room₀ length at₀ count₀ room at count = Wrote keeping image kana kept typed room₀ length at count room
 
-abbrev decreases-loop : tie.decreases-loop
+abbrev decreases-loop : tie.decreases-loop-at
 decreases-loop image kana places kept typed keeping room₀ length at₀ count₀ room at count = length - at
 
 -- the points of the code that facts are taken from: after the piece is found, and the loop
-abbrev piece : tie.Then1 invariant-loop decreases-loop → tie.After-next-piece invariant-loop decreases-loop
+abbrev piece : tie.Then-next-eq0 invariant-loop decreases-loop → tie.After-next_piece-next invariant-loop decreases-loop
 piece c = c.before.before
 
-abbrev loop : tie.After-next-piece invariant-loop decreases-loop → tie.At-loop invariant-loop decreases-loop
+abbrev loop : tie.After-next_piece-next invariant-loop decreases-loop → tie.At-loop-at invariant-loop decreases-loop
 loop c = c.before.before
 
 pub put_pieces_spec : {M : Type 1} → statement M
@@ -36,4 +36,4 @@ put_pieces_spec =
     (λ c. search rules)
     (λ c. search write_end)
     (λ c. search rules)
-    (λ c. search (write_stop, (piece c).next-piece.ensures, (loop (piece c)).loop.inv)))
+    (λ c. search (write_stop, (piece c).next_piece-next.ensures, (loop (piece c)).loop-at.invariant)))

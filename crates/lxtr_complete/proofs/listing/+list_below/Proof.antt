@@ -74,7 +74,7 @@ module _ (t : ℕ) where
   loop c = c.before.before.before
 
   abbrev chosen : Asked → Chosen
-  chosen c = c.before.before.before
+  chosen c = c.before.before.before.before
 
   abbrev gone : lts.After-slice_known-in-loop-j-1 (told t) (at t) list_below.Post Inv μ → Loop
   gone c = loop (chosen c.before.before.before)
@@ -99,13 +99,13 @@ unfolding max_labels
     (λ c. search going_start)
     (λ c. search going_room)
     (λ c. (search going_stopped, search going_kept))
-    (λ c κs. (search accepted_passed, (search (going_place, c.before.before.loop.invariant), search (going_code, c.before.before.loop.invariant))))
+    (λ c κs. (search accepted_passed, (search (going_place, c.before.before.loop-j.invariant), search (going_code, c.before.before.loop-j.invariant))))
     (λ c. search rules)
     (λ c. search rules)
     (λ c. search rules)
-    (λ c κs. (omega arith, (search rules, search (going_below, (loop t (chosen t c)).loop.inv, (start t (loop t (chosen t c))).pre.1.1))))
+    (λ c κs. (omega arith, (search rules, search (going_below, (loop t (chosen t c)).loop-j.invariant, (start t (loop t (chosen t c))).requires))))
     (λ c. search rules)
     (λ c. omega arith)
-    (λ c. search (going_on, (gone t c).loop.invariant, (start t (gone t c)).pre.1))
+    (λ c. search (going_on, (gone t c).loop-j.invariant, (start t (gone t c)).requires))
     (λ c. search going_room)
     (λ c. (search going_end, search going_kept))

@@ -23,5 +23,5 @@ put_record_spec =
     (λ c. search rules)
     (λ c κs. (omega arith, (omega arith, simp length-set (omega arith))))
     (λ c. search rules)
-    (λ c. c.before.before.put_words.auto.room.room.0 ∙ simp length-set)
+    (λ c. c.before.before.put_words.auto.room ∙ simp length-set)
     (λ c. search record_in))

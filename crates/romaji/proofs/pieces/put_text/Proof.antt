@@ -6,10 +6,10 @@ use Rattle.romaji.specs.NextPieces.{TextPut, put_start, put_label, put_place, pu
 use Rattle.romaji.proofs.pieces.put_text.Statement.{statement}
 use Rattle.romaji.proofs.pieces.put_text.Tie as tie
 
-abbrev invariant-loop : tie.invariant-loop
+abbrev invariant-loop : tie.invariant-loop-i
 invariant-loop text room₀ at count i₀ room i = TextPut text room₀ at count i room
 
-abbrev decreases-loop : tie.decreases-loop
+abbrev decreases-loop : tie.decreases-loop-i
 decreases-loop text room₀ at count i₀ room i = count - i
 
 pub put_text_spec : {M : Type 1} → statement M

@@ -8,10 +8,10 @@ use Rattle.romaji.specs.StateBytes.{KeptPut, put_none, put_start, put_read, put_
 use Rattle.romaji.proofs.states.put_state.Statement.{statement}
 use Rattle.romaji.proofs.states.put_state.Tie as tie
 
-abbrev invariant-loop : tie.invariant-loop
+abbrev invariant-loop : tie.invariant-loop-i
 invariant-loop state bytes₀ count kept i₀ bytes i = KeptPut state.kept bytes₀ count i bytes
 
-abbrev decreases-loop : tie.decreases-loop
+abbrev decreases-loop : tie.decreases-loop-i
 decreases-loop state bytes₀ count kept i₀ bytes i = count - i
 
 pub put_state_spec : {M : Type 1} → statement M

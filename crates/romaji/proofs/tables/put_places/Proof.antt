@@ -6,10 +6,10 @@ use Rattle.romaji.specs.Tables.{PlacesPut, places_start, places_room, places_nex
 use Rattle.romaji.proofs.tables.put_places.Statement.{statement}
 use Rattle.romaji.proofs.tables.put_places.Tie as tie
 
-abbrev invariant-loop : tie.invariant-loop
+abbrev invariant-loop : tie.invariant-loop-i
 invariant-loop kana count places₀ at₀ i₀ places at i = PlacesPut kana places₀ count i at places
 
-abbrev decreases-loop : tie.decreases-loop
+abbrev decreases-loop : tie.decreases-loop-i
 decreases-loop kana count places₀ at₀ i₀ places at i = count - i
 
 pub put_places_spec : {M : Type 1} → statement M

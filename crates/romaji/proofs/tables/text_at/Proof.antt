@@ -8,10 +8,10 @@ use Rattle.romaji.specs.Tables.{Begins, place_found, place_last, begins_kept, be
 use Rattle.romaji.proofs.tables.text_at.Statement.{statement}
 use Rattle.romaji.proofs.tables.text_at.Tie as tie
 
-abbrev invariant-loop : tie.invariant-loop
+abbrev invariant-loop : tie.invariant-loop-i
 invariant-loop kana places v value i₀ at₀ i at = Begins kana i at × (i ≤ v) × (value ≡ v)
 
-abbrev decreases-loop : tie.decreases-loop
+abbrev decreases-loop : tie.decreases-loop-i
 decreases-loop kana places v value i₀ at₀ i at = value - i
 
 pub text_at_spec : {M : Type 1} → statement M

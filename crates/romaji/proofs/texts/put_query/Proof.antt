@@ -6,10 +6,10 @@ use Prim.Native.Nat.{◌-◌}
 use Rattle.romaji.proofs.texts.put_query.Statement.{statement}
 use Rattle.romaji.proofs.texts.put_query.Tie as tie
 
-abbrev invariant-loop : tie.invariant-loop
+abbrev invariant-loop : tie.invariant-loop-i
 invariant-loop kept typed at count query₀ i₀ query i = QueryPut kept typed at count query₀ i query
 
-abbrev decreases-loop : tie.decreases-loop
+abbrev decreases-loop : tie.decreases-loop-i
 decreases-loop kept typed at count query₀ i₀ query i = count - i
 
 pub put_query_spec : {M : Type 1} → statement M

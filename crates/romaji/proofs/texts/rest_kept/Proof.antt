@@ -8,10 +8,10 @@ use Rattle.romaji_spec.specs.Pieces.{max_kept}
 use Rattle.romaji.proofs.texts.rest_kept.Statement.{statement}
 use Rattle.romaji.proofs.texts.rest_kept.Tie as tie
 
-abbrev invariant-loop : tie.invariant-loop
+abbrev invariant-loop : tie.invariant-loop-i
 invariant-loop kept typed at count bytes₀ i₀ bytes i = RestPut kept typed at count i bytes
 
-abbrev decreases-loop : tie.decreases-loop
+abbrev decreases-loop : tie.decreases-loop-i
 decreases-loop kept typed at count bytes₀ i₀ bytes i = count - i
 
 pub rest_kept_spec : {M : Type 1} → statement M
