@@ -36,7 +36,7 @@ const LETTERS: u64 = 256;
 const NO_DIGIT: u64 = 256;
 
 // What a line asks: the command, its numbers, and how many bytes it has. `is_read` is false if the line is malformed.
-#[derive(Drop)]
+#[derive(Clone, Copy)]
 pub struct Request {
     pub is_read: bool,
     pub command: u64,
@@ -46,7 +46,7 @@ pub struct Request {
 }
 
 // A number, how many digits it is written with, and where the line continues.
-#[derive(Drop)]
+#[derive(Clone, Copy)]
 struct Number {
     value: u64,
     digits: usize,
@@ -54,7 +54,7 @@ struct Number {
 }
 
 // `count` numbers of `width` bytes each; each is `step` more than the one before.
-#[derive(Drop)]
+#[derive(Clone, Copy)]
 struct Series {
     is_read: bool,
     first: u64,
@@ -65,7 +65,7 @@ struct Series {
 }
 
 // The bytes of a line: whether they could be read, and how many there are.
-#[derive(Drop)]
+#[derive(Clone, Copy)]
 struct Operand {
     is_read: bool,
     size: usize,

@@ -104,7 +104,7 @@ fn show_line(line: &[u8], image: &mut [u8; ROOM], size: usize, bytes: &mut [u8; 
 }
 
 // Where the script continues, and how many bytes the image has.
-#[derive(Drop)]
+#[derive(Clone, Copy)]
 struct Place {
     at: usize,
     size: usize,

@@ -3,10 +3,10 @@ use Rattle.std.proofs.Common.{rules}
 use Rattle.example_lines.proofs.push_number.Statement.{statement}
 use Rattle.example_lines.proofs.push_number.Tie as tie
 
-abbrev invariant-loop : tie.invariant-loop
+abbrev invariant-loop : tie.invariant-loop-k
 invariant-loop bytes₀ at number width next₀ k₀ bytes next k = Unit {0}
 
-abbrev decreases-loop : tie.decreases-loop
+abbrev decreases-loop : tie.decreases-loop-k
 decreases-loop bytes₀ at number width next₀ k₀ bytes next k = k
 
 pub push_number_spec : {M : Type 1} → statement M

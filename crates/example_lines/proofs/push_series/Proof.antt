@@ -3,10 +3,10 @@ use Rattle.std.proofs.Common.{rules}
 use Rattle.example_lines.proofs.push_series.Statement.{statement}
 use Rattle.example_lines.proofs.push_series.Tie as tie
 
-abbrev invariant-loop : tie.invariant-loop
+abbrev invariant-loop : tie.invariant-loop-left
 invariant-loop bytes₀ at series next₀ number₀ left₀ bytes next number left = Unit {0}
 
-abbrev decreases-loop : tie.decreases-loop
+abbrev decreases-loop : tie.decreases-loop-left
 decreases-loop bytes₀ at series next₀ number₀ left₀ bytes next number left = left
 
 pub push_series_spec : {M : Type 1} → statement M

@@ -3,10 +3,10 @@ use Rattle.std.proofs.Common.{rules}
 use Rattle.example_lines.proofs.read_bytes.Statement.{statement}
 use Rattle.example_lines.proofs.read_bytes.Tie as tie
 
-abbrev invariant-loop : tie.invariant-loop
+abbrev invariant-loop : tie.invariant-loop-left
 invariant-loop line at bytes₀ i₀ size₀ left₀ bytes i size left = Unit {0}
 
-abbrev decreases-loop : tie.decreases-loop
+abbrev decreases-loop : tie.decreases-loop-left
 decreases-loop line at bytes₀ i₀ size₀ left₀ bytes i size left = left
 
 pub read_bytes_spec : {M : Type 1} → statement M

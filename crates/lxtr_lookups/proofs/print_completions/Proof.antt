@@ -6,10 +6,10 @@ use Rattle.lxtr_lines.specs.Records.{is_whole}
 use Rattle.lxtr_lookups.proofs.print_completions.Statement.{statement}
 use Rattle.lxtr_lookups.proofs.print_completions.Tie as tie
 
-abbrev invariant-loop : tie.invariant-loop
+abbrev invariant-loop : tie.invariant-loop-i
 invariant-loop listing count at₀ i₀ at i = i ≤ count
 
-abbrev decreases-loop : tie.decreases-loop
+abbrev decreases-loop : tie.decreases-loop-i
 decreases-loop listing count at₀ i₀ at i = count - i
 
 pub print_completions_spec : {M : Type 1} → statement M

@@ -5,10 +5,10 @@ use native.Mathlib.Omega.{arith}
 use Rattle.lxtr_lookups.proofs.print_prefixes.Statement.{statement}
 use Rattle.lxtr_lookups.proofs.print_prefixes.Tie as tie
 
-abbrev invariant-loop : tie.invariant-loop
+abbrev invariant-loop : tie.invariant-loop-i
 invariant-loop query count lengths values i₀ i = Unit {0}
 
-abbrev decreases-loop : tie.decreases-loop
+abbrev decreases-loop : tie.decreases-loop-i
 decreases-loop query count lengths values i₀ i = count - i
 
 pub print_prefixes_spec : {M : Type 1} → statement M

@@ -6,10 +6,10 @@ use lib.ListN.{length}
 use Rattle.lxtr_typing.proofs.print_all_numbers.Statement.{statement}
 use Rattle.lxtr_typing.proofs.print_all_numbers.Tie as tie
 
-abbrev invariant-loop : tie.invariant-loop
+abbrev invariant-loop : tie.invariant-loop-at
 invariant-loop labels size at₀ at = Unit {0}
 
-abbrev decreases-loop : tie.decreases-loop
+abbrev decreases-loop : tie.decreases-loop-at
 decreases-loop labels size at₀ at = length labels - at
 
 pub print_all_numbers_spec : {M : Type 1} → statement M

@@ -6,10 +6,10 @@ use lib.ListN.{length}
 use Rattle.lxtr_typing.proofs.print_all_text.Statement.{statement}
 use Rattle.lxtr_typing.proofs.print_all_text.Tie as tie
 
-abbrev invariant-loop : tie.invariant-loop
+abbrev invariant-loop : tie.invariant-loop-at
 invariant-loop labels at₀ at = Unit {0}
 
-abbrev decreases-loop : tie.decreases-loop
+abbrev decreases-loop : tie.decreases-loop-at
 decreases-loop labels at₀ at = length labels - at
 
 pub print_all_text_spec : {M : Type 1} → statement M

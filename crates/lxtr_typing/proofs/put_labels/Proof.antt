@@ -7,10 +7,10 @@ use Rattle.romaji_spec.specs.Pieces.{max_kept}
 use Rattle.lxtr_typing.proofs.put_labels.Statement.{statement}
 use Rattle.lxtr_typing.proofs.put_labels.Tie as tie
 
-abbrev invariant-loop : tie.invariant-loop
+abbrev invariant-loop : tie.invariant-loop-i
 invariant-loop bytes room₀ i₀ room i = Unit {0}
 
-abbrev decreases-loop : tie.decreases-loop
+abbrev decreases-loop : tie.decreases-loop-i
 decreases-loop bytes room₀ i₀ room i = max_kept - i
 
 pub put_labels_spec : {M : Type 1} → statement M
