@@ -11,7 +11,6 @@ use Rattle.lxtr_spec.specs.CodeMaps.{map_of}
 use Rattle.lxtr_spec.specs.Builds.{image_in, slots_used, slots_in, placed_in, Outcome, with_room, from_placed, from_labels, from_keys, outcome_of, answered, work_after, build_of}
 use Rattle.lxtr_spec.specs.declared.Built.{Built}
 use Rattle.lxtr_laws.specs.Tests.{not_is_true, not_is_false}
-use Rattle.lxtr_laws.specs.Overlays.{over}
 use Rattle.lxtr_build_laws.specs.KeyListFacts.{KeysPassed}
 use Rattle.lxtr_build_laws.specs.Passing.{list_passed}
 use Rattle.lxtr_build_laws.specs.CodeTables.{picked, CodeTables, Mapped}

@@ -188,7 +188,7 @@ pub extern "C" fn lxtr_entries(image: &[u8], query: &[u8], table: &[u8], first: 
 {
     let answer = locate(image, query, table);
     let number = host_number(answer.refusal, false, answer.valued, answer.count);
-    if answer.refusal != 0 {
+    if 0 < answer.refusal {
         return number;
     }
     put_first(answer.first, first);

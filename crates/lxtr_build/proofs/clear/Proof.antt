@@ -6,10 +6,10 @@ use Rattle.lxtr_build.specs.Clearing.{ClearedSoFar, clear_start, clear_next, cle
 use Rattle.lxtr_build.proofs.clear.Statement.{statement}
 use Rattle.lxtr_build.proofs.clear.Tie as tie
 
-abbrev invariant-loop : tie.invariant-loop
+abbrev invariant-loop : tie.invariant-loop-i
 invariant-loop work₀ i₀ work i = ClearedSoFar work₀ work i
 
-abbrev decreases-loop : tie.decreases-loop
+abbrev decreases-loop : tie.decreases-loop-i
 decreases-loop work₀ i₀ work i = length work₀ - i
 
 pub clear_spec : {M : Type 1} → statement M

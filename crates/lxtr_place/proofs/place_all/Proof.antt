@@ -20,5 +20,5 @@ place_all_spec =
     (λ c. search rules)
     (λ c. search rules)
     (λ c κs. (search all_called, search rules))
-    (λ c. c.before.before.before.place-root.auto.1.1.1.1.1.1.0)
+    (λ c. c.place_root.auto.work)
     (λ c. search all_placed))
