@@ -6,10 +6,10 @@ use Rattle.lxtr_lines.specs.Records.{is_whole}
 use Rattle.list_pairs.proofs.print_pairs.Statement.{statement}
 use Rattle.list_pairs.proofs.print_pairs.Tie as tie
 
-abbrev invariant-loop : tie.invariant-loop
+abbrev invariant-loop : tie.invariant-loop-i
 invariant-loop listing count at₀ i₀ at i = i ≤ count
 
-abbrev decreases-loop : tie.decreases-loop
+abbrev decreases-loop : tie.decreases-loop-i
 decreases-loop listing count at₀ i₀ at i = count - i
 
 pub print_pairs_spec : {M : Type 1} → statement M
