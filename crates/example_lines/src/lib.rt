@@ -1,6 +1,8 @@
 // Reads a line of the script of `run_examples`: the name of the command, its decimal numbers, and its bytes. Bytes are written as
 // hexadecimal numbers, two digits for each byte, with a space before each number. NUMBER*N means the number N times, NUMBER+N
 // means N numbers, each one more than the one before.
+#![tactic(auto)]
+
 use lxtr_output::parts::{behind, byte_at};
 
 // Room for the bytes of a line, and for an image.

@@ -1,5 +1,7 @@
 // The listing program: reads a key list on standard input, builds its image and prints the completions of the empty prefix, a
 // line for each pair. What a line says is decided by `lxtr_lines`.
+#![tactic(auto)]
+
 ghost use Rattle.std.specs.Prelude.{◌≡◌, true};
 ghost use Rattle.lxtr_lines.specs.Records.{is_whole_record};
 

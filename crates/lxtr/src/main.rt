@@ -1,5 +1,7 @@
 // The inspector's command: checks, searches, lists, draws and builds LXTR images in files, and types with them. It calls the
 // proved operations and prints their answers. The last line is one word, for scripts.
+#![tactic(auto)]
+
 mod makers; // build, keys
 mod draw; // draw
 

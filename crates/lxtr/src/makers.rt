@@ -18,7 +18,12 @@ pub fn build(rt: &HostRuntime, keys: &[u8]) {
 }
 
 // Turns the arrays into slices, of which a part can be lent.
-fn build_in(rt: &HostRuntime, keys: &[u8], work: &mut [u32; WORK_WORDS], out: &mut [u8; LARGEST_FILE]) {
+fn build_in(
+    rt: &HostRuntime,
+    keys: &[u8],
+    work: &mut [u32; WORK_WORDS],
+    out: &mut [u8; LARGEST_FILE],
+) {
     build_into(rt, keys, work, out);
 }
 

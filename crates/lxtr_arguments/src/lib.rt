@@ -1,4 +1,6 @@
 // Which command the first argument names, and whether it takes the given number of operands.
+#![tactic(auto)]
+
 ghost use Rattle.std.specs.Prelude.{◌≡◌};
 ghost use Rattle.lxtr_command_spec.specs.Commands.{same_bytes, taking, later_rows, command_of};
 

@@ -1,4 +1,5 @@
 // Builds LXTR images from key lists. Any caller may use `build`; the other functions are its parts.
+#![tactic(auto)]
 
 ghost use Rattle.std.specs.Prelude.{◌≡◌, length, replicate};
 ghost use Rattle.lxtr_spec.specs.KeyLists.{pairs_of};

@@ -1,5 +1,7 @@
 // The functions for programs in C and Rust: each operation under a plain name, with slices passed as pointer and length, and one
 // 64-bit number as the answer. `include/lxtr.h` declares them and says what each number means.
+#![tactic(auto)]
+
 ghost use Rattle.std.specs.Prelude.{◌≡◌, false, ◌%◌, ◌^◌};
 ghost use Rattle.lxtr_spec.specs.Refusals.{unless_refused};
 ghost use Rattle.lxtr_spec.specs.HostNumbers.{host_number, at_front, check_number, fault_number, highest_number, probe_numbered, exact_number, probe_number, longest_number, why_number, host_prefixes_of, host_fresh, host_push_of, host_back_of, position_probe_number, host_completion_of, host_build_of};

@@ -1,5 +1,7 @@
 // Checks LXTR images: whether given bytes are an image, and of how many pairs. Each of rules 9 to 12 has a crate of its own. Any
 // caller may use `check`; `image_refusal`, `body_refusal` and `is_end` are for the crates that use this one.
+#![tactic(auto)]
+
 ghost use Rattle.std.specs.Prelude.{◌≡◌, ◌<◌};
 ghost use Rattle.lxtr_spec.specs.Image.{slot_count};
 ghost use Rattle.lxtr_spec.specs.Refusals.{body_refusal, image_refusal, is_end, end_count, check_of};

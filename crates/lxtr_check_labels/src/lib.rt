@@ -1,5 +1,7 @@
 // Rule 9: a listed label is no scalar value or is listed twice. A hash table with chaining: labels with the same remainder modulo
 // CHAINS form a chain, so that a label is compared only with the few earlier labels of its chain.
+#![tactic(auto)]
+
 ghost use Rattle.std.specs.Prelude.{◌≡◌, ◌+◌, ◌<◌};
 ghost use Rattle.lxtr_spec.specs.Ranges.{any_below, first_below};
 ghost use Rattle.lxtr_spec.specs.Image.{label_count};

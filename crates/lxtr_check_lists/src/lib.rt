@@ -1,4 +1,6 @@
 // Rule 11: a children list is wrong. Offsets are tested first: only if none falls do all lists lie within the children array.
+#![tactic(auto)]
+
 ghost use Rattle.std.specs.Prelude.{◌≡◌, false, ◌+◌, ◌<◌};
 ghost use Rattle.lxtr_spec.specs.Ranges.{any_below, first_below};
 ghost use Rattle.lxtr_spec.specs.Image.{slot_count, child_count, offset, list_width};

@@ -1,6 +1,8 @@
 // Rule 12: some used slot from 2 up doesn't reach slot 1. If no slot is wrong (rule 10), each parent is a slot, slots 0 and 1
 // have parent 0, and a used slot from 2 up has a used parent. So the steps from a used slot reach slot 0 only through slot 1, and
 // then stay there. It is enough to look at the slot after STEPS steps; the single steps need no test.
+#![tactic(auto)]
+
 ghost use Rattle.std.specs.Prelude.{◌≡◌, false, ◌<◌};
 ghost use Rattle.lxtr_spec.specs.Ranges.{first_below};
 ghost use Rattle.lxtr_spec.specs.Image.{slot_count};

@@ -1,4 +1,6 @@
 // Rule 10: a slot is wrong.
+#![tactic(auto)]
+
 ghost use Rattle.std.specs.Prelude.{◌≡◌, ◌<◌};
 ghost use Rattle.lxtr_spec.specs.Ranges.{first_below};
 ghost use Rattle.lxtr_spec.specs.Image.{slot_count};

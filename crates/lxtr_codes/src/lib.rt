@@ -1,5 +1,7 @@
 // The code map of a key list, as three tables: the labels that the keys use, in ascending order; the code of each; and their
 // places in code order.
+#![tactic(auto)]
+
 mod labels; // the labels
 mod counts; // how often each occurs
 pub mod guesses; // a label looked up by a guess, also for lxtr_place

@@ -1,4 +1,5 @@
 // The answer types of the command's parts: UTF-8 text, text files of words, and arguments. Their meaning is defined in specs/.
+#![tactic(auto)]
 
 // A text decoded into labels: how many there are. `problem` is 0, or NOT_UTF8, or NO_ROOM.
 #[derive(Clone, Copy)]

@@ -1,5 +1,7 @@
 // Completions of LXTR images, written into lent room: the pairs whose keys begin with the labels of a query. Any caller may use
 // `complete`; the other functions are its parts.
+#![tactic(auto)]
+
 mod records; // one record after the other
 mod listing; // the pairs below a slot
 

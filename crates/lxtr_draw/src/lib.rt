@@ -1,4 +1,6 @@
 // The drawing of an image, in the language of Graphviz: what is drawn of each slot and each entry, as text in a lent line.
+#![tactic(auto)]
+
 ghost use Rattle.std.specs.Prelude.{◌≡◌, cond, ◌≤◌, ◌<◌};
 ghost use Rattle.lxtr_spec.specs.Image.{slot_count, child_count, has_leaf};
 ghost use Rattle.lxtr_laws.specs.Passed.{Whole, Passed};

@@ -1,5 +1,7 @@
 // Goods entries behind the value numbers: the check of an entry table, and the lookup of a query's entries. Nothing is assumed about
 // image, query and table. The image is read only by operations of the library, of which only the contracts are used.
+#![tactic(auto)]
+
 mod tables; // reads an entry table
 
 ghost use Rattle.std.specs.Prelude.{◌≡◌, false, cond, ◌+◌, ◌*◌, ◌≤◌, length, eqb};

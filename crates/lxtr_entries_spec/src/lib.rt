@@ -1,5 +1,6 @@
 // Goods entries: the answer types, the size of an entry, and the refusal numbers. Their meaning is defined in specs/, which holds
 // request 7 of document 02 as definitions.
+#![tactic(auto)]
 
 // The number of bytes of an entry, and of an offset.
 pub const ENTRY_BYTES: usize = 8;

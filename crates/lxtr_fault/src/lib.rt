@@ -1,4 +1,6 @@
 // Finds where the fault lies in an image that is refused by 9 to 12. Any caller may use `fault`.
+#![tactic(auto)]
+
 mod list_faults; // 11: where a list is wrong
 
 ghost use Rattle.std.specs.Prelude.{◌≡◌};

@@ -1,4 +1,6 @@
 // Reads whole files into lent room, and writes whole files. System errors are reported on standard error, with the reason.
+#![tactic(auto)]
+
 ghost use Rattle.std.specs.Prelude.{◌≤◌, length, IfOk};
 
 use lxtr_bytes::heads::HEAD_LENGTH;
@@ -35,7 +37,10 @@ const NOT_TEXT: i32 = 84;
 fn print_reason(rt: &HostRuntime, error: Error) {
     if let Ok(text) = format!(in rt.alloc(); "{error}") {
         let bytes = text.as_str().as_bytes();
-        io::write_all(STANDARD_ERROR, front(bytes, find(bytes, 0, b'(').saturating_sub(1)));
+        io::write_all(
+            STANDARD_ERROR,
+            front(bytes, find(bytes, 0, b'(').saturating_sub(1)),
+        );
     }
 }
 
@@ -50,7 +55,13 @@ fn fail(rt: &HostRuntime, what: &[u8], error: Error) {
 
 // Reads a file to its end. Returns how many bytes were read, and sets `is_whole` if they are the whole file. Otherwise it reports
 // why not: the file is too large or cannot be read.
-fn read_all(rt: &HostRuntime, file: &mut File, path: &[u8], room: &mut [u8; FILE_ROOM], is_whole: &mut bool) -> usize
+fn read_all(
+    rt: &HostRuntime,
+    file: &mut File,
+    path: &[u8],
+    room: &mut [u8; FILE_ROOM],
+    is_whole: &mut bool,
+) -> usize
     ensures { result ≤ length room.new }
 {
     *is_whole = false;
@@ -98,7 +109,12 @@ fn open(rt: &HostRuntime, path: &[u8]) -> Result<File, Error> {
 }
 
 // Reads the file of that name. Returns what `read_all` returns.
-fn load_named(rt: &HostRuntime, path: &[u8], room: &mut [u8; FILE_ROOM], is_whole: &mut bool) -> usize
+fn load_named(
+    rt: &HostRuntime,
+    path: &[u8],
+    room: &mut [u8; FILE_ROOM],
+    is_whole: &mut bool,
+) -> usize
     ensures { result ≤ length room.new }
 {
     *is_whole = false;
@@ -112,7 +128,12 @@ fn load_named(rt: &HostRuntime, path: &[u8], room: &mut [u8; FILE_ROOM], is_whol
 }
 
 // Reads the file that an argument names. Returns what `read_all` returns.
-pub fn load(rt: &HostRuntime, argument: usize, room: &mut [u8; FILE_ROOM], is_whole: &mut bool) -> usize
+pub fn load(
+    rt: &HostRuntime,
+    argument: usize,
+    room: &mut [u8; FILE_ROOM],
+    is_whole: &mut bool,
+) -> usize
     ensures { result ≤ length room.new }
 {
     *is_whole = false;

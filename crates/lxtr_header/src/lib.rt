@@ -1,5 +1,7 @@
 // Refusals 1 to 8 of an image, for any bytes: a test for each fault, then the first refusal that holds. Any caller may use
 // `header_refusal`.
+#![tactic(auto)]
+
 ghost use Rattle.std.specs.Prelude.{◌≡◌, [], ◌∷◌, ◌≤◌, length};
 ghost use Rattle.lxtr_spec.specs.Image.{header_length};
 ghost use Rattle.lxtr_spec.specs.Refusals.{magic_differs, version_wrong, reserved_set, sizes_wrong, length_wrong, map_wrong, offset_ends_wrong, refuse_if, header_refusal};

@@ -1,5 +1,7 @@
 // The highest value number of an image's set. Whatever lists something for each value number from 0 up is long enough for every
 // value of the image if it is long enough for this one. Any caller may use `highest`.
+#![tactic(auto)]
+
 ghost use Rattle.std.specs.Prelude.{◌≡◌, cond, ltb, ◌+◌, ◌<◌};
 ghost use Rattle.lxtr_spec.specs.Image.{slot_count, value_number};
 ghost use Rattle.lxtr_spec.specs.Refusals.{is_end};

@@ -1,5 +1,7 @@
 // Key lists: reads the keys, and gives the first of refusals 15 to 19. A key list is a version byte 1, a count in four bytes,
 // then per key a length byte and its labels, four bytes each, big-endian. A key is given by the position of its length byte.
+#![tactic(auto)]
+
 mod refusals; // 15 and 17 to 19, key by key
 
 ghost use Rattle.std.specs.Prelude.{◌≡◌, ◌+◌, ◌*◌, ◌≤◌, ◌<◌, length};

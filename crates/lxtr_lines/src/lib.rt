@@ -1,5 +1,7 @@
 // The lines that the programs print, written to the front of a lent line: a word and a number, the pairs of a listing in document
 // 01's form, keys with their values, and entries. The functions are for the programs.
+#![tactic(auto)]
+
 pub mod keys; // the labels of a key
 
 ghost use Rattle.std.specs.Prelude.{◌≡◌, true, ◌++◌, ◌+◌, ◌≤◌, length};

@@ -1,5 +1,7 @@
 // The inspector's commands that check and search an image: check, exact, prefixes, longest, probe, why and complete. Each calls the
 // proved operation and prints its answer. The last line is one word, for scripts.
+#![tactic(auto)]
+
 mod reasons; // why
 
 ghost use Rattle.std.specs.Prelude.{◌≡◌, true};

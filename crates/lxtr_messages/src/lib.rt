@@ -1,5 +1,7 @@
 // The sentences of the inspector's command, each given by its place in a text. No contract says which sentence is printed; how
 // the marks of a sentence are filled is proved in `lxtr_text`.
+#![tactic(auto)]
+
 mod refusals; // the sentence of each refusal, and of each place at fault
 
 use lxtr_lines::keys::append_text;

@@ -1,5 +1,7 @@
 // Texts for standard output, each given by its place among several. Every literal makes the proof of its function longer, so a
 // program has all its texts in one literal, and refers to them by their places.
+#![tactic(auto)]
+
 pub mod parts; // parts of bytes that are never out of bounds
 
 use crate::parts::{behind, find, part};

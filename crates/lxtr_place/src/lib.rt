@@ -1,4 +1,6 @@
 // Places the keys of a key list by first fit, as slots in lent work: document 01, "Building".
+#![tactic(auto)]
+
 mod groups; // the keys that pass a slot
 mod codes; // the codes of a group's children
 mod settling; // a slot's own words, its children's, and their slots in the map

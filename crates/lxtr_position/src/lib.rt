@@ -1,5 +1,7 @@
 // A typing position, for any bytes as image: it takes one more label or takes the last one back, and answers what a lookup would
 // answer for the labels typed so far, without walking from slot 1 again. Any caller may use it; `numbers` is for `lxtr_c`.
+#![tactic(auto)]
+
 pub mod numbers; // the position as a number
 
 ghost use Rattle.std.specs.Prelude.{◌≡◌, ◌≤◌, ◌<◌, length};

@@ -1,6 +1,8 @@
 // Searches LXTR images: lookup, prefixes and longest match, for any bytes as image and query. The searches walk every image that
 // passes refusals 1 to 8, whether or not the check would accept it. Any caller may use them, and `found_value` and `has_longer`
 // of `cases`; the rest of `cases`, and `matches`, are for the crates that use this one.
+#![tactic(auto)]
+
 pub mod cases; // the four cases of a lookup
 pub mod matches; // the prefixes of a query that have a value
 

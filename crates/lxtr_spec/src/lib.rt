@@ -1,5 +1,7 @@
 // The answer types, the limits and the refusal numbers. Their meaning is defined in specs/, which holds document 01, with requests 2,
 // 3, 5 and 6 of document 02, as definitions.
+#![tactic(auto)]
+
 pub mod refusals; // the number of each refusal
 
 // The largest number of labels in a key, and the number of possible lengths that follows from it.

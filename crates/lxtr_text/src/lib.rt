@@ -1,5 +1,7 @@
 // Appends text to a lent line, as much as fits: numbers, labels as characters, and forms, which are text with marks for numbers.
 // Any caller may use `forms::fill`; the other functions are for the crates that use this one.
+#![tactic(auto)]
+
 pub mod appending; // bytes added to a line
 pub mod numerals; // numbers
 pub mod characters; // labels as text

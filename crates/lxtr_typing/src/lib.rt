@@ -1,5 +1,7 @@
 // The inspector's command type: types a text with an image of romaji and its kana table, then finishes, and prints what goes out
 // and what waits. The last line is one word, for scripts.
+#![tactic(auto)]
+
 use lxtr_lines::keys::{append_labels, append_spaced};
 use lxtr_messages::{
     FINISH_OUT, NOTHING_AT_FINISH, NOTHING_OUT, NOTHING_WAITS, OUT, TYPED, WAITS, print_text,

@@ -1,6 +1,8 @@
 // The labels of a text in UTF-8 (RFC 3629): how many there are, and writing them into lent room, as in a query. Also the byte
 // order mark at the front of a text. Nothing is assumed about the text. specs/ proves that a text has one reading, and that the
 // order of texts by bytes is their order by labels.
+#![tactic(auto)]
+
 mod characters; // the character that a text begins with
 
 ghost use Rattle.std.specs.Prelude.{◌≡◌, ◌*◌, ◌≤◌, length};

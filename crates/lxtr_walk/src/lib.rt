@@ -1,6 +1,8 @@
 // The walk over an image that passed refusals 1 to 8: one step, the walk of a query, and what is found at its end; also the
 // refusals that come before it. The functions are for the crates that use this one. All but `search_refusal` require what its answer 0
 // guarantees.
+#![tactic(auto)]
+
 ghost use Rattle.std.specs.Prelude.{◌≡◌, ◌<◌};
 ghost use Rattle.lxtr_spec.specs.Labels.{labels_of};
 ghost use Rattle.lxtr_spec.specs.Image.{slot_count};

@@ -1,5 +1,7 @@
 // Why a query is found or not: the one reason, for any bytes as image and query. It walks every image that passes refusals 1 to 8,
 // whether or not the check would accept it. Any caller may use `why`.
+#![tactic(auto)]
+
 ghost use Rattle.std.specs.Prelude.{◌≡◌, ◌<◌};
 ghost use Rattle.lxtr_spec.specs.Labels.{labels_of};
 ghost use Rattle.lxtr_spec.specs.Image.{slot_count};

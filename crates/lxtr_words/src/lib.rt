@@ -1,5 +1,7 @@
 // The key list of a text file of one word per line, in UTF-8: sorted, each word once. Nothing is assumed about the text. Any
 // caller may use `key_list`; the other functions are its parts. A word is given by the position in the text where it starts.
+#![tactic(auto)]
+
 mod lines; // the lines of a text, and the word of each
 mod problems; // lines that make no word
 mod order; // which of two words comes first

@@ -1,5 +1,7 @@
 // Writes the image of the filled work to the front of the output: header, nodes, offsets, children and code map; or refuses if the
 // output is too short. `put_image` is for the builder, which fills the work.
+#![tactic(auto)]
+
 mod counting; // how many slots the image has, and how many children
 mod links; // which child comes after which
 mod lists; // the offsets and the children lists

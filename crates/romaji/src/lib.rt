@@ -1,6 +1,8 @@
 // Romaji typing: typed bytes go out as kana, by an image whose keys are romaji and a table of kana for its values. Nothing is
 // assumed about image, table, state, text and room. The image is read only by operations of the library, of which only the
 // contracts are used.
+#![tactic(auto)]
+
 mod tables; // the texts of the kana table
 mod texts; // the text: what was kept, then what is typed
 mod pieces; // the piece at a place of the text

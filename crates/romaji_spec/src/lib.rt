@@ -1,5 +1,7 @@
 // Romaji typing: the types of state and answer, the limit of what is kept, and the refusal numbers. Their meaning is defined in
 // specs/, which holds request 1 of document 02 as definitions.
+#![tactic(auto)]
+
 use lxtr_spec::MAX_LABELS;
 
 // What is kept back is a proper front part of a key, so it has at least one label less than a key may have.

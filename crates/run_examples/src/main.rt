@@ -1,5 +1,7 @@
 // Runs document 01's examples, and more cases at its limits and refusals, through the compiled operations: reads a script on
 // standard input, and prints each line with its answer.
+#![tactic(auto)]
+
 mod rooms; // the arrays that are lent
 mod output; // printing
 mod answers; // the commands that ask

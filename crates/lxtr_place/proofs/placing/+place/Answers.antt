@@ -47,9 +47,9 @@ loop-j-preserved t c =
     let i = c.loop-j.invariant in
     let h = c.loop-j-test.true in
     elim c.if-code-ne0.branch [
-      then-code-ne0+else-not-place w ↦
-        let going = child_placed i.within i.going h refl w.if-code-ne0.true w.slot_under-t.ensures w.child_group-child.ensures.result_value _ _ w.place.ensures.work_after (ap not w.if-not-place.false) _ _ _ w.room-is c.if-code-ne0.auto.room w.work-is in
-        record { within = i.within; going = going; free_map = map_as w.place.ensures.free_map_2 w.work-is w.free-is w.lowest-is }
+      | then-code-ne0+else-not-place w ↦
+          let going = child_placed i.within i.going h refl w.if-code-ne0.true w.slot_under-t.ensures w.child_group-child.ensures.result_value _ _ w.place.ensures.work_after (ap not w.if-not-place.false) _ _ _ w.room-is c.if-code-ne0.auto.room w.work-is in
+          record { within = i.within; going = going; free_map = map_as w.place.ensures.free_map_2 w.work-is w.free-is w.lowest-is }
       | else-code-ne0 w ↦ record { within = i.within; going = past_end i.within i.going h refl w.if-code-ne0.false _ _ w.room-is w.work-is; free_map = map_as i.free_map w.work-is w.free-is w.lowest-is }
     ]
 
