@@ -9,5 +9,5 @@ borders_spec =
     tie.close
     (tie.spec
     (λ c κs. search rules)
-    (λ c. rw (sym c.before.has-leaf.ensures ∙ c.if1.true))
-    (λ c. rw (sym c.before.has-leaf.ensures ∙ c.if1.false)))
+    (λ c. rw (sym c.before.has_leaf.ensures ∙ c.if-has_leaf.true))
+    (λ c. rw (sym c.before.has_leaf.ensures ∙ c.if-has_leaf.false)))

@@ -9,5 +9,5 @@ unfolding colour
 colour_spec =
     tie.close
     (tie.spec
-    (λ c. rw c.if1.true refl)
-    (λ c. rw c.if1.false refl))
+    (λ c. rw c.if-wrong.true refl)
+    (λ c. rw c.if-wrong.false refl))

@@ -13,4 +13,4 @@ is_drawn_spec =
     (λ c κs. search rules)
     (λ c κs. search rules)
     (λ c κs. search rules)
-    (λ c. rw (c.before.before.is_base_word.ensures, c.before.is_check_word.ensures, c.is-wrong-slot.ensures)))
+    (λ c. rw (c.before.before.base_word.ensures, c.before.check_word.ensures, c.is_wrong_slot.ensures)))

@@ -6,10 +6,10 @@ use Rattle.lxtr_draw.specs.EntryLists.{list_place, list_fits, list_behind, list_
 use Rattle.lxtr_draw.proofs.list_of.Statement.{statement}
 use Rattle.lxtr_draw.proofs.list_of.Tie as tie
 
-abbrev invariant-loop : tie.invariant-loop
+abbrev invariant-loop : tie.invariant-loop-p
 invariant-loop image from j p₀ p = p ≤ list_of image j
 
-abbrev decreases-loop : tie.decreases-loop
+abbrev decreases-loop : tie.decreases-loop-p
 decreases-loop image from j p₀ p = list_of image j - p
 
 pub list_of_spec : {M : Type 1} → statement M

@@ -5,10 +5,10 @@ use Rattle.lxtr_spec.specs.Labels.{max_labels, length_count}
 use Rattle.run_examples.proofs.answers.say_places.Statement.{statement}
 use Rattle.run_examples.proofs.answers.say_places.Tie as tie
 
-abbrev invariant-loop : tie.invariant-loop
+abbrev invariant-loop : tie.invariant-loop-i
 invariant-loop count lengths values i₀ i = Unit {0}
 
-abbrev decreases-loop : tie.decreases-loop
+abbrev decreases-loop : tie.decreases-loop-i
 decreases-loop count lengths values i₀ i = length_count - i
 
 pub say_places_spec : {M : Type 1} → statement M
