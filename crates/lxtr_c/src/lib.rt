@@ -188,12 +188,12 @@ pub extern "C" fn lxtr_entries_check(image: &[u8], table: &[u8]) -> u64
 pub extern "C" fn lxtr_entries(image: &[u8], query: &[u8], table: &[u8], first: &mut [u32]) -> u64
     ensures { record { number = result; first = first.new } ≡ host_entries_of image.now query.now table.now first.old }
 {
-    let answer = locate(image, query, table);
-    let number = host_number(answer.refusal, false, answer.valued, answer.count);
-    if 0 < answer.refusal {
+    let located = locate(image, query, table);
+    let number = host_number(located.refusal, false, located.valued, located.count);
+    if located.refusal != 0 {
         return number;
     }
-    put_first(answer.first, first);
+    put_first(located.first, first);
     number
 }
 

@@ -10,6 +10,6 @@ lxtr_longest_spec =
     tie.close
     (tie.spec
     (λ c κs. search rules)
-    (λ c. omega (arith, longest_fits _ _ _ _ c.longest.ensures))
+    (λ c. omega (arith, longest_fits _ _ _ _ c.longest-part.ensures))
     (λ c κs. search rules)
     (λ c. search longest_number_lem))
