@@ -138,12 +138,12 @@ fn run(rt: &HostRuntime, asked: Command, operands: usize) {
 // How many arguments follow the names of the program and of the command.
 fn operand_count(rt: &HostRuntime) -> usize {
     let mut none = [0u8; 0];
-    for count in 0..usize::MAX {
-        if let Err(FillError::NotPresent) = rt.arg(count + 2, &mut none) {
-            return count;
+    for place in 2..usize::MAX {
+        if let Err(FillError::NotPresent) = rt.arg(place, &mut none) {
+            return place - 2;
         }
     }
-    usize::MAX
+    usize::MAX - 2
 }
 
 fn main(rt: HostRuntime) {

@@ -9,10 +9,10 @@ use Rattle.lxtr_draw.specs.EntryLists.{list_on}
 use Rattle.lxtr.proofs.draw.draw_entries.Statement.{statement}
 use Rattle.lxtr.proofs.draw.draw_entries.Tie as tie
 
-abbrev invariant-loop : tie.invariant-loop
+abbrev invariant-loop : tie.invariant-loop-j
 invariant-loop image fault children p₀ j₀ p j = (children ≡ child_count image) × (p ≤ list_of image j)
 
-abbrev decreases-loop : tie.decreases-loop
+abbrev decreases-loop : tie.decreases-loop-j
 decreases-loop image fault children p₀ j₀ p j = children - j
 
 pub draw_entries_spec : {M : Type 1} → statement M

@@ -7,10 +7,10 @@ use Rattle.lxtr_spec.specs.Image.{slot_count}
 use Rattle.lxtr.proofs.draw.draw_slots.Statement.{statement}
 use Rattle.lxtr.proofs.draw.draw_slots.Tie as tie
 
-abbrev invariant-loop : tie.invariant-loop
+abbrev invariant-loop : tie.invariant-loop-s
 invariant-loop image fault slots s₀ s = slots ≡ slot_count image
 
-abbrev decreases-loop : tie.decreases-loop
+abbrev decreases-loop : tie.decreases-loop-s
 decreases-loop image fault slots s₀ s = slots - s
 
 pub draw_slots_spec : {M : Type 1} → statement M
