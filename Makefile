@@ -6,31 +6,31 @@ quietly = @mkdir -p target; $(1) > target/make.log 2>&1 || { cat target/make.log
 
 # The command, shown on a sample: the image of a key list is built, checked and listed.
 run:
-	$(call quietly,rt check lxtr)
+	$(call quietly,bash .ci/build lxtr)
 	target/bin/lxtr build samples/goods.keys target/goods.img
 	target/bin/lxtr check target/goods.img
 	target/bin/lxtr complete target/goods.img
 
 # The listing program of document 01.
 list:
-	$(call quietly,rt check list_pairs)
+	$(call quietly,bash .ci/build list_pairs)
 	@target/bin/list_pairs < samples/goods.keys
 
 # Document 01's examples: the script, and the answers of the compiled operations.
 examples:
-	$(call quietly,rt check run_examples)
+	$(call quietly,bash .ci/build run_examples)
 	@target/bin/run_examples < crates/run_examples/stdin
 
 # target/staticlib/liblxtr_c.a, for programs in C.
 archive:
-	$(call quietly,rt staticlib lxtr_c)
+	$(call quietly,bash .ci/build lxtr_c)
 
 host: archive
 	$(call quietly,bash .ci/host)
 	@cat target/host/stdout
 
 crosscheck: archive
-	$(call quietly,rt check list_pairs lxtr)
+	$(call quietly,bash .ci/build list_pairs lxtr)
 	@bash .ci/crosscheck
 
 # Times of the C functions and of the independent implementation, on generated key lists.
@@ -39,12 +39,12 @@ bench: archive
 
 # The files of lessons/ made anew, and the commands of its README run.
 lessons:
-	$(call quietly,rt check lxtr)
+	$(call quietly,bash .ci/build lxtr)
 	@bash .ci/lessons
 
 # The inspector's command run on sound and bad files, and with bad arguments.
 command:
-	$(call quietly,rt check lxtr)
+	$(call quietly,bash .ci/build lxtr)
 	@bash .ci/command
 
 test:

@@ -15,7 +15,7 @@ use Rattle.lxtr_spec.specs.Searches.{case_value}
 use Rattle.lxtr_spec.specs.Positions.{TypingPosition, MoveAnswer, move_answer, position_lookup_of}
 use Rattle.lxtr_spec.specs.Samples.{p3}
 use Rattle.lxtr_spec.specs.declared.Lookup.{Lookup}
-use Rattle.lxtr_demands.specs.TypingPositions.{Move, push, back, held_after, held_from, held, moved, moved_by, MoveOperations, library, Stays, Words, PositionDemand}
+use Rattle.lxtr_demands.specs.TypingPositions.{Move, back, held_after, held_from, held, moved, moved_by, MoveOperations, library, Stays, Words, PositionDemand}
 use Rattle.lxtr_demands.specs.Laws.TypingPositions.{after, position_demand}
 use Rattle.lxtr_demands.specs.Rows.{computing}
 use Rattle.lxtr_rows.specs.PositionRows.{cycle, n, a, x}

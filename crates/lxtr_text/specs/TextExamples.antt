@@ -6,7 +6,7 @@ use Rattle.lxtr_spec.specs.Lines.{digit_of, numeral, decimal, hexadecimal, label
 use Rattle.lxtr_laws.specs.ExampleTables.{AllHold, ◌and◌}
 use Rattle.lxtr_command_spec.specs.Utf8.{utf8}
 use Rattle.lxtr_command_spec.specs.Commands.{ascii_from, ascii}
-use Rattle.lxtr_command_spec.specs.Forms.{is_control, shown, quoted, shown_all, spaced, key_text, completion_line, prefix_line, two_digits, bytes_text, entry_line, next_number, piece, takes, filled}
+use Rattle.lxtr_command_spec.specs.Forms.{is_control, shown, quoted, shown_all, spaced, key_text, completion_line, prefix_line, next_number, piece, takes, filled}
 
 pub data Example : Type 0 where
   -- a label, and its text
@@ -17,8 +17,6 @@ pub data Example : Type 0 where
   completes : List ℕ → ℕ → List ℕ → Example
   -- a prefix's length and value, its labels, and the line
   precedes : ℕ → ℕ → List ℕ → List ℕ → Example
-  -- an entry's place, its bytes, and the line
-  enters : ℕ → List ℕ → List ℕ → Example
   -- a form, numbers, and the text
   fills : String → List ℕ → List ℕ → Example
 
@@ -27,7 +25,6 @@ Holds (shows x t) = shown x ≡ t
 Holds (quotes x t) = quoted x ≡ t
 Holds (completes xs value t) = completion_line (xs, value) ≡ t
 Holds (precedes length value xs t) = prefix_line length value xs ≡ t
-Holds (enters place xs t) = entry_line place xs ≡ t
 Holds (fills form ns t) = filled (ascii form) ns ≡ t
 
 -- U+FFFD
@@ -61,8 +58,6 @@ examples =
     ∷ completes [] 0 (ascii "0\t\t\n")
     ∷ completes (0x61 ∷ 0x09 ∷ []) 4294967295 (ascii "4294967295\ta" ++ (replacement ++ ascii "\t61 9\n"))
     ∷ precedes 1 7 (0x304B ∷ []) (ascii "1\t7\t" ++ (ka ++ ascii "\t304B\n"))
-    -- each byte has two digits
-    ∷ enters 12 (0 ∷ 1 ∷ 0x0F ∷ 0x10 ∷ 0x47 ∷ 0x9A ∷ 0xA0 ∷ 0xFF ∷ []) (ascii "12\t00010F10479AA0FF\n")
     -- each mark, no mark, no form
     ∷ fills "slot %: $, \"@\"\n" (10 ∷ 0xE00000 ∷ 0x22 ∷ []) (ascii "slot 10: E00000, \"\\\"\"\n")
     ∷ fills "@@" (0x304B ∷ 0x306A ∷ []) (ka ++ na)
@@ -76,11 +71,11 @@ examples =
     ∷ []
 
 pub text_examples_hold : AllHold Holds examples
-unfolding examples is_scalar digit_of numeral decimal hexadecimal labels_text utf8 ascii_from ascii is_control shown quoted shown_all spaced key_text completion_line prefix_line two_digits bytes_text entry_line next_number piece takes filled
+unfolding examples is_scalar digit_of numeral decimal hexadecimal labels_text utf8 ascii_from ascii is_control shown quoted shown_all spaced key_text completion_line prefix_line next_number piece takes filled
 text_examples_hold =
     refl and refl and refl and refl and refl and refl
     and refl and refl and refl and refl and refl and refl and refl and refl and refl
     and refl and refl and refl and refl and refl
-    and refl and refl and refl and refl and refl
+    and refl and refl and refl and refl
     and refl and refl and refl and refl and refl and refl and refl
     and tt
