@@ -1,9 +1,9 @@
 -- Where the entries of a query lie, as the code finds it: first the refusals, then the pair of offsets. The part that is handed back
 -- lies there. Results of calls are variables: each law says that what one return computes is the definition's answer.
-use Rattle.std.specs.Prelude.{ℕ, ◌+◌, ◌*◌, ◌-◌, ◌≤◌, ◌<◌, ◌^◌, ◌≡◌, refl, ◌≢◌, List, [], Bool, true, false, ◌||◌, cond, length, take, drop, ltb, eqb}
+use Rattle.std.specs.Prelude.{ℕ, ◌+◌, ◌*◌, ◌-◌, ◌≤◌, ◌<◌, ◌^◌, ◌≡◌, ◌≢◌, List, Bool, true, false, ◌||◌, cond, length, take, drop, ltb, eqb}
 use Rattle.std.proofs.Common.{arith, ◌∙◌}
 use Rattle.std.proofs.Math.Path.{sym, ap}
-use Rattle.std.proofs.Math.Option.{Option, some, none}
+use Rattle.std.proofs.Math.Option.{some}
 use borrow.Author.Tests.{lt-ltb, le-ltb, le-leb, lt-leb, eq-eqb, ne_eqb}
 use Rattle.lxtr_spec.specs.Refusals.{refuse_if, first_refusal, unless_refused}
 use Rattle.lxtr_spec.specs.Searches.{search_refusal, case_value, lookup_of}
@@ -11,9 +11,9 @@ use Rattle.lxtr_spec.specs.Answers.{found}
 use Rattle.lxtr_spec.specs.declared.Found.{Found}
 use Rattle.lxtr_spec.specs.declared.Found.TheVariants.{Is, Nothing}
 use Rattle.lxtr_spec.specs.declared.Lookup.{Lookup}
-use Rattle.lxtr_laws.specs.RefusalChains.{none_refused, none_first, first_stands, stands}
-use Rattle.lxtr_entries_spec.specs.EntryTables.{entry_size, value_count, table_offset, entries_at, entry_count, entry_bytes, own_count, value_bytes, form_wrong, falls, pair_wrong, value_beyond}
-use Rattle.lxtr_entries_spec.specs.EntryLookups.{query_value, pair_refusal, entries_refusal, part_for, EntriesAnswer, entries_of, located_by, nowhere, located_of}
+use Rattle.lxtr_laws.specs.RefusalChains.{first_stands, stands}
+use Rattle.lxtr_entries_spec.specs.EntryTables.{entry_size, value_count, table_offset, entries_at, entry_count, entry_bytes, own_count, form_wrong, falls, pair_wrong, value_beyond}
+use Rattle.lxtr_entries_spec.specs.EntryLookups.{query_value, pair_refusal, entries_refusal, EntriesAnswer, entries_of, located_by, nowhere, located_of}
 use Rattle.lxtr_entries_spec.specs.declared.Located.{Located}
 use Rattle.lxtr_entries_laws.specs.TableFacts.{has_head}
 use Rattle.lxtr_entries_laws.specs.Parts.{same_part, LiesIn, located_within}

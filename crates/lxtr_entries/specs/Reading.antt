@@ -1,9 +1,9 @@
 -- An entry table as the code reads it: version and length, values and offsets.
 -- Results of calls are variables: each law says which definition equals what one return computes.
-use Rattle.std.specs.Prelude.{ℕ, ◌+◌, ◌*◌, ◌-◌, ◌/◌, ◌%◌, ◌^◌, ◌≤◌, ◌<◌, ◌≡◌, List, Bool, true, false, ◌||◌, not, length, leb, ltb, eqb}
-use Rattle.std.proofs.Common.{arith, sym, ap₂, ◌∙◌}
+use Rattle.std.specs.Prelude.{ℕ, ◌+◌, ◌-◌, ◌/◌, ◌%◌, ◌^◌, ◌≤◌, ◌<◌, ◌≡◌, List, Bool, true, false, ◌||◌, not, length, leb, ltb, eqb}
+use Rattle.std.proofs.Common.{arith, sym, ◌∙◌}
 use Rattle.std.proofs.Math.Bool.{or-true}
-use borrow.Author.Tests.{lt-ltb, le-ltb, ne_eqb, eq-eqb}
+use borrow.Author.Tests.{lt-ltb, le-ltb, ne_eqb}
 use Rattle.lxtr_spec.specs.Ranges.{any_below}
 use Rattle.lxtr_spec.specs.Numbers.{byte_at}
 use Rattle.lxtr_spec.specs.Answers.{found}

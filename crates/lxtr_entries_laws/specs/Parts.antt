@@ -1,7 +1,7 @@
 -- The part that a lookup hands back is the one that is located, and it lies in the table: both go by the query's value, and a pair that
 -- is not refused does not pass the entries.
-use Rattle.std.specs.Prelude.{ℕ, zero, suc, ◌+◌, ◌*◌, ◌-◌, ◌≤◌, ◌≡◌, refl, ◌≢◌, List, [], Bool, true, false, cond, length, take, eqb}
-use Rattle.std.proofs.Common.{arith, sym, ap, ◌∙◌, eqb-true, ne_eqb}
+use Rattle.std.specs.Prelude.{ℕ, zero, suc, ◌+◌, ◌*◌, ◌≤◌, ◌≡◌, refl, ◌≢◌, List, [], Bool, true, false, cond, length, eqb}
+use Rattle.std.proofs.Common.{arith, ap, eqb-true, ne_eqb}
 use Rattle.std.proofs.Math.Option.{Option, some, none}
 use Rattle.lxtr_spec.specs.Refusals.{refuse_if, unless_refused}
 use Rattle.lxtr_spec.specs.Searches.{search_refusal}
@@ -9,7 +9,7 @@ use Rattle.lxtr_laws.specs.RefusalChains.{none_refused, none_first}
 use Rattle.lxtr_entries_spec.specs.EntryTables.{entry_size, table_offset, entries_at, entry_bytes, own_count, value_bytes, form_wrong, pair_wrong, value_beyond}
 use Rattle.lxtr_entries_spec.specs.EntryLookups.{query_value, pair_refusal, entries_refusal, part_for, EntriesAnswer, entries_of, located_by, nowhere, located_of}
 use Rattle.lxtr_entries_spec.specs.declared.Located.{Located}
-use Rattle.lxtr_entries_laws.specs.TableFacts.{has_head, pair_right, entries_within}
+use Rattle.lxtr_entries_laws.specs.TableFacts.{pair_right, entries_within}
 
 -- no entries have no bytes, wherever they begin
 none_there : (t : List ℕ) (i j : ℕ) → entry_bytes t i 0 ≡ entry_bytes t j 0

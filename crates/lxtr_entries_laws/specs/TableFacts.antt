@@ -1,11 +1,10 @@
 -- What holds of a table whose form is right: version and length fit, so that every offset up to offset V lies in it, and the entries of
 -- a pair that is right do too. A table that the check accepts has such a form and such offsets.
-use Rattle.std.specs.Prelude.{ℕ, ◌+◌, ◌*◌, ◌-◌, ◌%◌, ◌≤◌, ◌≡◌, refl, ◌↔◌, List, Bool, false, ◌||◌, not, length, ltb, eqb}
-use Rattle.std.proofs.Common.{arith, sym, ◌∙◌}
-use Rattle.std.proofs.Math.Option.{Option, some}
+use Rattle.std.specs.Prelude.{ℕ, ◌+◌, ◌*◌, ◌-◌, ◌%◌, ◌≤◌, ◌≡◌, refl, ◌↔◌, List, false, length}
+use Rattle.std.proofs.Common.{arith}
+use Rattle.std.proofs.Math.Option.{Option}
 use Rattle.lxtr_spec.specs.Refusals.{refuse_if}
 use Rattle.lxtr_spec.specs.HighestValues.{highest_of}
-use Rattle.lxtr_laws.specs.Tests.{or_is_false}
 use Rattle.lxtr_laws.specs.RangeTests.{tests}
 use Rattle.lxtr_laws.specs.RefusalChains.{none_refused, none_first}
 use Rattle.lxtr_entries_spec.specs.EntryTables.{entry_size, table_version, value_count, table_offset, entries_at, entry_count, form_wrong, falls, pair_wrong, value_beyond, offsets_wrong, table_refusal}
