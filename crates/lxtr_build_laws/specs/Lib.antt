@@ -1,5 +1,5 @@
 -- Facts about the builder's definitions, each stated once. A reader of contracts meets only KeyListFacts, CodeTables
--- and Work; inside `lxtr_place` and `lxtr_fit` also Ready of PlacingSteps, and SlotsBelow and eachStep of SlotLoops.
+-- and Work; inside `lxtr_place` and `lxtr_fit` also Ready of PlacingSteps, and SlotsBelow and each_step of SlotLoops.
 pub mod KeyListFacts
 pub mod CodeTables
 pub mod Work

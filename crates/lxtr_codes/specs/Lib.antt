@@ -1,4 +1,4 @@
--- What the code computes, turn by turn. A reader of its contracts meets only standsAt, Gathered, the definitions that open
+-- What the code computes, turn by turn. A reader of its contracts meets only stands_at, Gathered, the definitions that open
 -- LabelCounting and Ranking, Assigned and CodedFront, all in functions that no other crate calls.
 pub mod Inserting
 pub mod LabelGathering

@@ -148,7 +148,7 @@ fn part<'a>(table: &'a [u8], first: u32, count: u32) -> &'a [u8]
 // The entries of the query, as a part of the lent table; empty if it has none, has no value or is refused. `refusal` is set to the
 // refusal, or to 0.
 pub fn entries<'a>(image: &[u8], query: &[u8], table: &'a [u8], refusal: &mut u8) -> &'a [u8]
-    ensures { record { refusal = refusal.exit.now; part = result.now } ≡ entries_of image.now query.now table.now }
+    ensures { record { refusal = refusal.new; part = result.now } ≡ entries_of image.now query.now table.now }
 {
     let answer = locate(image, query, table);
     *refusal = answer.refusal;

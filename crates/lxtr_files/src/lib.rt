@@ -33,14 +33,19 @@ const NAME_TOO_LONG: i32 = 36;
 
 const NOT_TEXT: i32 = 84;
 
-// Prints the reason of a system error, without its number, which follows in brackets.
+// A reason without the number of the system's error, which follows in brackets.
+fn without_number(reason: &[u8]) -> &[u8] {
+    let end = find(reason, 0, b'(');
+    if end < reason.len() {
+        return front(reason, end.saturating_sub(1));
+    }
+    reason
+}
+
+// Prints the reason of a system error.
 fn print_reason(rt: &HostRuntime, error: Error) {
     if let Ok(text) = format!(in rt.alloc(); "{error}") {
-        let bytes = text.as_str().as_bytes();
-        io::write_all(
-            STANDARD_ERROR,
-            front(bytes, find(bytes, 0, b'(').saturating_sub(1)),
-        );
+        io::write_all(STANDARD_ERROR, without_number(text.as_str().as_bytes()));
     }
 }
 

@@ -59,7 +59,7 @@ module _ (b : List ℕ) (x i : ℕ) where
       go true e ih = rw (sum_with k true e) (omega arith)
       go false e ih = rw (sum_with k false e) (omega arith)
 
-  -- a sum of at most oneMatch is 0, since a single match adds more
+  -- a sum of at most one_match is 0, since a single match adds more
   sum_small : (k : ℕ) → block_sum b x i k ≤ one_match → block_sum b x i k ≡ 0
   unfolding block_sum weight
   sum_small zero h = refl

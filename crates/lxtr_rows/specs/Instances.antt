@@ -249,7 +249,7 @@ module _ (o : Operations) (meets : Demand2 o) where
       omega (arith, version_written, ap (λ (r : List ℕ). get_or r 0 0) (idle (blank 40) (omega arith)), ap (λ (a : CompletionAnswer). get_or a.room 0 0) (only_complete p11 [] (blank 40) p11_is_image refl (omega arith)))
 
   -- A made-up completion count fails: any number that is not that of the records that fit. So does the same number whatever the
-  -- room. (The count that is written into the room is part of what only-complete says.)
+  -- room. (The count that is written into the room is part of what only_complete says.)
   pub made_up_completion_count_fails : (b : List ℕ) (d : PairSet) (q room : List ℕ) (ps fit : List Pair) → ImageOf b d → length q % 4 ≡ 0 → Lists b d (labels_of q) ps
       → 5 ≤ length room → FittingFront (length room) ps fit → (o.complete b q room).answer.count ≢ length fit → ⊥
   made_up_completion_count_fails b d q room ps fit image whole are h front other =

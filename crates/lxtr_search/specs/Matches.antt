@@ -1,4 +1,4 @@
--- The prefixes of a query that have a value, as one walk finds them: `matchesTo b q i` are those of lengths up to i.
+-- The prefixes of a query that have a value, as one walk finds them: `matches_to b q i` are those of lengths up to i.
 -- Each slot on the way adds its own match. If the walk stops, no prefix beyond that point has a value.
 use Rattle.std.specs.Prelude.{ℕ, ◌+◌, ◌-◌, ◌≤◌, ◌<◌, ◌≡◌, get_or, take}
 use Rattle.std.proofs.Math.Path.{sym, ap}

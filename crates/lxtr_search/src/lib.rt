@@ -50,7 +50,7 @@ pub fn prefixes(image: &[u8], query: &[u8]) -> Prefixes
 // Longest: the longest prefix that `prefixes` reports, as the front part of the lent query; empty if there is none. `refusal` is
 // set to the refusal, or to 0.
 pub fn longest<'a>(image: &[u8], query: &'a [u8], refusal: &mut u8) -> &'a [u8]
-    ensures { record { refusal = refusal.exit.now; part = result.now } ≡ longest_of image.now query.now }
+    ensures { record { refusal = refusal.new; part = result.now } ≡ longest_of image.now query.now }
 {
     let number = search_refusal(image, query);
     *refusal = number;

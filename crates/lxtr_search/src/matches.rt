@@ -76,7 +76,7 @@ pub fn put_prefixes(
     values: &mut [u32; LENGTH_COUNT],
     refusal: &mut u8,
 ) -> u32
-    ensures { record { refusal = refusal.exit.now; count = result; lengths = lengths.new; values = values.new } ≡ prefixes_of image.now query.now }
+    ensures { record { refusal = refusal.new; count = result; lengths = lengths.new; values = values.new } ≡ prefixes_of image.now query.now }
 {
     *lengths = [0u32; LENGTH_COUNT];
     *values = [0u32; LENGTH_COUNT];

@@ -60,7 +60,7 @@ lookup_of b q =
     let case = case_within b (labels_of q) in
     record { refusal = search_refusal b q; case = unless_refused (search_refusal b q) case Neither }
 
--- Prefixes: length and value, shortest first, of each prefix of xs to which f gives a value. matchAt gives the match of length k, if any.
+-- Prefixes: length and value, shortest first, of each prefix of xs to which f gives a value. match_at gives the match of length k, if any.
 unfoldable pub length_match : ℕ → Option ℕ → List (ℕ × ℕ)
 length_match k none = []
 length_match k (some v) = (k, v) ∷ []

@@ -18,7 +18,7 @@ numbers n i = concat_from n i single
 unfoldable pub linked : ℕ → List ℕ
 linked s = (s + 2 * (s % 2)) ∷ (s - 1) ∷ []
 
--- An image with one key, of maxLabels labels 61, whose value is 0: each slot from the root on is linked so, up to the one where the key
+-- An image with one key, of max_labels labels 61, whose value is 0: each slot from the root on is linked so, up to the one where the key
 -- ends, and the end is the slot after that one.
 unfoldable pub long_key : List ℕ
 long_key =
