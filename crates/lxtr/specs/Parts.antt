@@ -1,16 +1,15 @@
 -- What the answers of the operations leave known: a header that passed, and where the labels of a decoded word lie.
-use Rattle.std.specs.Prelude.{ℕ, ◌*◌, ◌≤◌, ◌≡◌, refl, List, ◌++◌, Bool, true, false, ltb, drop}
+use Rattle.std.specs.Prelude.{ℕ, ◌*◌, ◌≤◌, ◌≡◌, refl, List, ◌++◌, Bool, true, false, ltb, drop, Option, Some, None}
 use native.Mathlib.Omega.{arith}
 use Rattle.std.proofs.Common.{sym, ◌∙◌, length-append}
 use Rattle.std.proofs.Math.Path.{ap}
-use Rattle.std.proofs.Math.Option.{Option, some, none}
 use Rattle.std.proofs.Math.ListN.{length}
 use Rattle.lxtr_spec.specs.Numbers.{be_words}
 use Rattle.lxtr_spec.specs.Refusals.{header_refusal}
 use Rattle.lxtr_laws.specs.Passed.{Passed, header_passed}
 use Rattle.lxtr_laws.specs.ByteOrders.{big, words_size}
 use Rattle.lxtr_command_spec.specs.Utf8.{labels_of_text, DecodingAnswer, decoding, decoding_of}
-use Rattle.lxtr_command_spec.specs.declared.Decoded.{Decoded}
+use Rattle.lxtr_command_spec.specs.Utf8.{Decoded}
 
 -- a header that refuses nothing
 pub passed : (b : List ℕ) (r : ℕ) → r ≡ header_refusal b → r ≡ 0 → Passed b
@@ -19,8 +18,8 @@ passed b r e z = header_passed (sym e ∙ z)
 -- if a word is decoded, its labels lie in the room
 decoded_in : (room : List ℕ) (o : Option (List ℕ)) → (decoding room o).answer.problem ≡ 0 → 4 * (decoding room o).answer.count ≤ length (decoding room o).room
 unfolding decoding
-decoded_in room none e = absurd (omega arith)
-decoded_in room (some xs) e = go (ltb (length room) (4 * length xs)) refl e
+decoded_in room None e = absurd (omega arith)
+decoded_in room (Some xs) e = go (ltb (length room) (4 * length xs)) refl e
   where
     choice : Bool → DecodingAnswer
     choice s = elim s as (λ _. DecodingAnswer) [

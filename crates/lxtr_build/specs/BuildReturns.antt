@@ -1,15 +1,14 @@
 -- The answers of the builder's functions, and the outcomes that they stand for: from the refusals of the list to the image.
 use Prim.Native.Nat.{ℕ, zero, suc, ◌≤◌, ◌<◌}
 use Rattle.std.proofs.Common.{arith, ap, ◌∙◌, lt-ltb, le-ltb}
-use Rattle.std.specs.Prelude.{◌≡◌, refl, List, Bool, true, false, not, take, replicate}
+use Rattle.std.specs.Prelude.{◌≡◌, refl, List, Bool, true, false, not, take, replicate, Some}
 use Rattle.std.proofs.Math.Path.{sym}
-use Rattle.std.proofs.Math.Option.{some}
 use Rattle.std.proofs.Math.ListN.{length}
 use Rattle.lxtr_spec.specs.Labels.{max_listed, Pair}
 use Rattle.lxtr_spec.specs.KeyLists.{list_refusal, pairs_of}
 use Rattle.lxtr_spec.specs.CodeMaps.{map_of}
 use Rattle.lxtr_spec.specs.Builds.{image_in, slots_used, slots_in, placed_in, Outcome, with_room, from_placed, from_labels, from_keys, outcome_of, answered, work_after, build_of}
-use Rattle.lxtr_spec.specs.declared.Built.{Built}
+use Rattle.lxtr_spec.specs.Builds.{Built}
 use Rattle.lxtr_laws.specs.Tests.{not_is_true, not_is_false}
 use Rattle.lxtr_build_laws.specs.KeyListFacts.{KeysPassed}
 use Rattle.lxtr_build_laws.specs.Passing.{list_passed}
@@ -42,7 +41,7 @@ module _ (keys w : List ℕ) (W R : ℕ) (out : List ℕ) (r : Bool) (placed : p
   placed_not h = rw (← placed, (not_is_true r).0 h) (answers_refusal 22 out)
 
   module _ (h : not r ≡ false) (labels codes order : List ℕ) (tables : CodeTables (pairs_of keys) labels codes order) (same : length w ≡ W) where
-    found : placed_in W (pairs_of keys) (map_of (pairs_of keys)) ≡ some w
+    found : placed_in W (pairs_of keys) (map_of (pairs_of keys)) ≡ Some w
     unfolding placed_as
     found = sym (rw ((not_is_false r).0 h) at placed)
 

@@ -2,7 +2,7 @@
 use Rattle.std.specs.Prelude.{ℕ, ◌≤◌, ◌≡◌, List, length, drop}
 use Rattle.std.proofs.Common.{arith, ap, length-append}
 use Rattle.lxtr_spec.specs.Builds.{Outcome, refuses, builds, BuildAnswer, outcome_of, answered, work_after, build_of}
-use Rattle.lxtr_spec.specs.declared.Built.{Built}
+use Rattle.lxtr_spec.specs.Builds.{Built}
 
 answered_within : (x : Outcome) (out work : List ℕ) → (answered x out work).answer.length ≤ length (answered x out work).output
 unfolding answered

@@ -1,6 +1,5 @@
 -- A work that holds a set: what the slots of the prefixes and of the keys' ends hold, and that no other slot holds anything.
-use Rattle.std.specs.Prelude.{ℕ, ◌+◌, ◌^◌, ◌<◌, ◌≡◌, List, [], ◌∷◌, ◌++◌, true, ◌≢◌, ◌↔◌}
-use Rattle.std.proofs.Math.Option.{none}
+use Rattle.std.specs.Prelude.{ℕ, ◌+◌, ◌^◌, ◌<◌, ◌≡◌, List, [], ◌∷◌, ◌++◌, true, ◌≢◌, ◌↔◌, None}
 use Rattle.lxtr_spec.specs.Labels.{value_limit}
 use Rattle.lxtr_spec.specs.Joining.{slot_under}
 use Rattle.lxtr_spec.specs.Image.{top_bit}
@@ -32,7 +31,7 @@ pub record Filled (N L : ℕ) (d : PairSet) (w : List ℕ) (code : ℕ → ℕ) 
   pub slots_differ : (p q : List ℕ) → Prefix d p → Prefix d q → slot p ≡ slot q → p ≡ q
   pub ends_differ : (k l : List ℕ) (u v : ℕ) → Has d k u → Has d l v → end k ≡ end l → k ≡ l
   pub slot_no_end : (p k : List ℕ) (v : ℕ) → Prefix d p → Has d k v → slot p ≢ end k
-  pub empty_root : ((k : List ℕ) → d k ≡ none) → base_at w 1 ≡ 0
+  pub empty_root : ((k : List ℕ) → d k ≡ None) → base_at w 1 ≡ 0
   pub each : (t : ℕ) → WorkSlot d w slot end t
   pub small : (t : ℕ) → (base_at w t < 2 ^ 32) × (check_at w t < 2 ^ 32)
   pub listed : TakenListed w N L

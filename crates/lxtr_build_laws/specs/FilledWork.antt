@@ -1,14 +1,13 @@
 -- Placing fills a work: the slots of prefixes and of keys' ends differ and hold what an image's slots hold; all others hold zeros.
 -- Two prefixes with the same slot have the same parent and the same last code, so they are equal; and a taken slot from 2 up is in
 -- the tree, so it is one of these.
-use Rattle.std.specs.Prelude.{ℕ, zero, suc, ◌+◌, ◌*◌, ◌^◌, ◌≤◌, ◌<◌, ◌≡◌, true, ◌≢◌, ◌↔◌, length, set}
+use Rattle.std.specs.Prelude.{ℕ, zero, suc, ◌+◌, ◌*◌, ◌^◌, ◌≤◌, ◌<◌, ◌≡◌, true, ◌≢◌, ◌↔◌, length, set, Option, Some, None}
 use native.Mathlib.Omega.{arith}
 use Rattle.std.proofs.Math.Decide.{ℕ_discrete, dec_le}
 use Rattle.std.proofs.Common.{add-one, ap₂, ◌∙◌, ⊎_elim, inr}
 use Rattle.std.proofs.Math.Path.{refl, sym, ap, subst}
 use mathlib.Core.List.Memᴰ
 use mathlib.Core.List.{List, [], ◌∷◌, ◌++◌, append-nil, Memᴰ}
-use Rattle.std.proofs.Math.Option.{Option, some, none}
 use Rattle.lxtr_spec.specs.Labels.{max_labels, length_count, Pair}
 use Rattle.lxtr_spec.specs.Joining.{slot_under}
 use Rattle.lxtr_spec.specs.Image.{top_bit, low31}
@@ -53,10 +52,10 @@ flag_most (zero ∷ cs) = omega arith
 flag_most (suc c ∷ cs) = omega arith
 
 -- with no key, slot 1's base is 0
-placed_empty : (S : ℕ) (code label : ℕ → ℕ) (k : ℕ) (w₀ w : List ℕ) → 2 < length w₀ → place S code label (suc k) 1 [] w₀ ≡ some w → base_at w 1 ≡ 0
+placed_empty : (S : ℕ) (code label : ℕ → ℕ) (k : ℕ) (w₀ w : List ℕ) → 2 < length w₀ → place S code label (suc k) 1 [] w₀ ≡ Some w → base_at w 1 ≡ 0
 unfolding place child_codes end_value settle first_fit first_fit_from fits put_children put_parent into_each
 placed_empty S code label k w₀ w l e =
-    let z : ◌≡◌ {A = Option (List ℕ)} (some (set w₀ (2 * 1) 0)) (some w) = e in
+    let z : ◌≡◌ {A = Option (List ℕ)} (Some (set w₀ (2 * 1) 0)) (Some w) = e in
     let q : set w₀ (2 * 1) 0 ≡ w = cc in
     ap (λ (x : List ℕ). base_at x 1) (sym q) ∙ base_same w₀ 1 0 (omega arith)
 
@@ -202,10 +201,10 @@ module _ {S L : ℕ} {code label : ℕ → ℕ} {ps : List Pair} {w₀ w : List 
   slots_differ : (p q : List ℕ) → Prefix d p → Prefix d q → slot p ≡ slot q → p ≡ q
   slots_differ p q g h e = differ_last p (last p) q (last q) g h e
 
-  empty_root : ((k : List ℕ) → d k ≡ none) → base_at w 1 ≡ 0
+  empty_root : ((k : List ℕ) → d k ≡ None) → base_at w 1 ≡ 0
   empty_root h =
-      let none_placed : place S code label (suc max_labels) 1 [] w₀ ≡ some w =
-      subst (λ (n : ℕ). place S code label n 1 [] w₀ ≡ some w) (add-one max_labels) (subst (λ (qs : List Pair). place S code label length_count 1 qs w₀ ≡ some w) (set_empty ps f.right.ascending h) f.is) in
+      let none_placed : place S code label (suc max_labels) 1 [] w₀ ≡ Some w =
+      subst (λ (n : ℕ). place S code label n 1 [] w₀ ≡ Some w) (add-one max_labels) (subst (λ (qs : List Pair). place S code label length_count 1 qs w₀ ≡ Some w) (set_empty ps f.right.ascending h) f.is) in
       placed_empty S code label max_labels w₀ w (omega (arith, f.low, f.room)) none_placed
 
   pub filled : Filled (slots_used w S) L (set_of ps) w code (prefix_slot code w) (end_slot code w)

@@ -1,11 +1,10 @@
 -- Placing from a work of zeros: the node at each prefix of a key, the codes of its children, and where each taken slot comes from.
 -- The proof goes along the labels of a key, down the tree that placing leaves.
-use Rattle.std.specs.Prelude.{ℕ, zero, suc, ◌+◌, ◌*◌, ◌-◌, ◌≤◌, ◌<◌, ◌≡◌, refl, get_or, length, replicate}
+use Rattle.std.specs.Prelude.{ℕ, zero, suc, ◌+◌, ◌*◌, ◌-◌, ◌≤◌, ◌<◌, ◌≡◌, refl, get_or, length, replicate, Some}
 use Rattle.std.proofs.Common.{arith, add-one, sym, ⊎_elim, length-append}
 use Rattle.std.proofs.Math.Path.{subst}
 use mathlib.Core.List.Memᴰ
 use mathlib.Core.List.{List, [], ◌∷◌, ◌++◌, append-nil, Memᴰ}
-use Rattle.std.proofs.Math.Option.{some}
 use Rattle.std.proofs.lemmas.List.{length-replicate}
 use Rattle.lxtr_spec.specs.Labels.{max_labels, length_count, max_slots, Pair}
 use Rattle.lxtr_spec.specs.Placing.{base_at, check_at, next_code, child_codes, end_value, place}
@@ -32,7 +31,7 @@ pub record Filling (S L : ℕ) (code label : ℕ → ℕ) (ps : List Pair) (w₀
   pub high : S ≤ max_slots
   pub room : 2 * S ≤ length w₀
   pub zeros : (j : ℕ) → get_or w₀ j 0 ≡ 0
-  pub is : place S code label length_count 1 ps w₀ ≡ some w
+  pub is : place S code label length_count 1 ps w₀ ≡ Some w
   pub right : KeysRight ps
   pub known : (x : ℕ) → Uses ps x → (1 ≤ code x) × (code x ≤ L) × (label (code x) ≡ x)
 
@@ -139,7 +138,7 @@ all_zero zero j = refl
 all_zero (suc n) zero = refl
 all_zero (suc n) (suc j) = all_zero n j
 
-pub filling : (W : ℕ) (ps : List Pair) (w : List ℕ) → 4 ≤ W → KeysRight ps → placed_in W ps (map_of ps) ≡ some w
+pub filling : (W : ℕ) (ps : List Pair) (w : List ℕ) → 4 ≤ W → KeysRight ps → placed_in W ps (map_of ps) ≡ Some w
     → Filling (slots_in W) (length (map_of ps)) (code_in (map_of ps)) (label_with (map_of ps)) ps (replicate W 0) w
 unfolding slots_in placed_in
 filling W ps w h right e = record {

@@ -4,8 +4,7 @@ use Rattle.std.proofs.Math.Path.{◌≡◌, refl, sym, ap, subst}
 use Rattle.std.proofs.Common.{◌∙◌, arith, eq-or-lt_of_le}
 use mathlib.Core.List.Memᴰ
 use mathlib.Core.List.{List, [], ◌∷◌, Memᴰ}
-use Rattle.std.proofs.Math.Option.{Option, some, none}
-use Rattle.std.specs.Prelude.{Bool, ◌&&◌, leb, ltb, eqb}
+use Rattle.std.specs.Prelude.{Bool, ◌&&◌, leb, ltb, eqb, Option, Some, None}
 use Rattle.std.proofs.Math.Bool.{true, false}
 use Rattle.std.proofs.Math.Logic.{⊎_elim}
 use Rattle.lxtr_spec.specs.Joining.{slot_under, code_under}
@@ -25,20 +24,20 @@ module _ (S : ℕ) (w cs : List ℕ) where
   -- a base that does not fit is skipped
   fit_past : (n b : ℕ) → fits S w cs b ≡ false → first_fit_from S w cs (suc n) b ≡ first_fit_from S w cs n (b + 1)
   unfolding first_fit_from
-  fit_past n b h = ap (λ (t : Bool). elim t as (λ _. Option ℕ) [ true ↦ some b | false ↦ first_fit_from S w cs n (b + 1) ]) h
+  fit_past n b h = ap (λ (t : Bool). elim t as (λ _. Option ℕ) [ true ↦ Some b | false ↦ first_fit_from S w cs n (b + 1) ]) h
 
-  fit_here : (n b : ℕ) → fits S w cs b ≡ true → first_fit_from S w cs (suc n) b ≡ some b
+  fit_here : (n b : ℕ) → fits S w cs b ≡ true → first_fit_from S w cs (suc n) b ≡ Some b
   unfolding first_fit_from
-  fit_here n b h = ap (λ (t : Bool). elim t as (λ _. Option ℕ) [ true ↦ some b | false ↦ first_fit_from S w cs n (b + 1) ]) h
+  fit_here n b h = ap (λ (t : Bool). elim t as (λ _. Option ℕ) [ true ↦ Some b | false ↦ first_fit_from S w cs n (b + 1) ]) h
 
-  from_some : (n b r : ℕ) → first_fit_from S w cs n b ≡ some r → Smallest S w cs b r × (r < b + n)
+  from_some : (n b r : ℕ) → first_fit_from S w cs n b ≡ Some r → Smallest S w cs b r × (r < b + n)
   unfolding first_fit_from
-  from_some zero b r e = let z : ◌≡◌ {A = Option ℕ} none (some r) = e in absurd (let o : ◌≡◌ {A = ℕ} 0 1 = cc in omega arith)
+  from_some zero b r e = let z : ◌≡◌ {A = Option ℕ} None (Some r) = e in absurd (let o : ◌≡◌ {A = ℕ} 0 1 = cc in omega arith)
   from_some (suc n) b r e = go (λ h. from_some n (b + 1) r (sym (fit_past n b h) ∙ e)) (fits S w cs b) refl
     where
       go : (fits S w cs b ≡ false → Smallest S w cs (b + 1) r × (r < b + 1 + n)) → (t : Bool) → fits S w cs b ≡ t → Smallest S w cs b r × (r < b + suc n)
       go rest true h =
-          let q : ◌≡◌ {A = Option ℕ} (some b) (some r) = sym (fit_here n b h) ∙ e in
+          let q : ◌≡◌ {A = Option ℕ} (Some b) (Some r) = sym (fit_here n b h) ∙ e in
           let br : b ≡ r = cc in
           (record { from = omega arith; fit = subst (λ (x : ℕ). fits S w cs x ≡ true) br h; none_before = λ x l m. absurd (omega arith) }, omega arith)
       go rest false h =
@@ -51,22 +50,22 @@ module _ (S : ℕ) (w cs : List ℕ) where
             omega (arith, ih.1),
           )
 
-  from_none : (n b : ℕ) → first_fit_from S w cs n b ≡ none → (x : ℕ) → b ≤ x → x < b + n → fits S w cs x ≡ false
+  from_none : (n b : ℕ) → first_fit_from S w cs n b ≡ None → (x : ℕ) → b ≤ x → x < b + n → fits S w cs x ≡ false
   unfolding first_fit_from
   from_none zero b e x l m = absurd (omega arith)
   from_none (suc n) b e x l m = go (λ h. from_none n (b + 1) (sym (fit_past n b h) ∙ e) x) (fits S w cs b) refl
     where
       go : (fits S w cs b ≡ false → b + 1 ≤ x → x < b + 1 + n → fits S w cs x ≡ false) → (t : Bool) → fits S w cs b ≡ t → fits S w cs x ≡ false
       go rest true h =
-          let q : ◌≡◌ {A = Option ℕ} (some b) none = sym (fit_here n b h) ∙ e in
+          let q : ◌≡◌ {A = Option ℕ} (Some b) None = sym (fit_here n b h) ∙ e in
           absurd (let o : ◌≡◌ {A = ℕ} 0 1 = cc in omega arith)
       go rest false h = ⊎_elim (λ (q : b ≡ x). subst (λ (y : ℕ). fits S w cs y ≡ false) q h) (λ q. rest h (omega arith) (omega arith)) (eq-or-lt_of_le l)
 
-  pub first_fit_some : (r : ℕ) → first_fit S w cs ≡ some r → Smallest S w cs 0 r × (r < base_count)
+  pub first_fit_some : (r : ℕ) → first_fit S w cs ≡ Some r → Smallest S w cs 0 r × (r < base_count)
   unfolding first_fit
   first_fit_some r e = let f = from_some base_count 0 r e in (f.0, omega (arith, f.1))
 
-  pub first_fit_none : first_fit S w cs ≡ none → (b : ℕ) → b < base_count → fits S w cs b ≡ false
+  pub first_fit_none : first_fit S w cs ≡ None → (b : ℕ) → b < base_count → fits S w cs b ≡ false
   unfolding first_fit
   first_fit_none e b h = from_none base_count 0 e b (omega arith) (omega arith)
 
@@ -76,10 +75,10 @@ module _ (S : ℕ) (w cs : List ℕ) where
   first_fit_first = go (first_fit S w cs) refl
     where
       go : (o : Option ℕ) → first_fit S w cs ≡ o → FirstOf (fits S w cs) 0 base_count o
-      go (some r) e =
+      go (Some r) e =
           let least = first_fit_some r e in
           record { from = least.0.from; to = least.1; here = least.0.fit; none_before = least.0.none_before }
-      go none e = record { none = λ b i h. first_fit_none e b h }
+      go None e = record { none = λ b i h. first_fit_none e b h }
 
 -- ---- a base that fits
 

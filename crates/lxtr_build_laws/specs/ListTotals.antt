@@ -1,8 +1,7 @@
 -- The children lists together have as many entries as there are taken slots from 2 up: each of these is listed, and listed once.
-use Rattle.std.specs.Prelude.{ℕ, ◌≤◌, ◌<◌, ◌≡◌, ◌≢◌, true, length}
+use Rattle.std.specs.Prelude.{ℕ, ◌≤◌, ◌<◌, ◌≡◌, ◌≢◌, true, length, Some}
 use Rattle.std.proofs.Common.{arith, ap}
 use mathlib.Core.List.{List, Memᴰ}
-use Rattle.std.proofs.Math.Option.{some}
 use Rattle.lxtr_spec.specs.Ranges.{count_below}
 use Rattle.lxtr_spec.specs.Labels.{Pair}
 use Rattle.lxtr_spec.specs.Image.{low31}
@@ -32,7 +31,7 @@ children_counted w N L listed = members_counted (children_in w N L) N (is_taken_
         all_has w N L t k.0 k.1 k.2
 
 -- the same for the work in which the pairs of a key list are placed
-pub children_count : (W : ℕ) (ps : List Pair) (w : List ℕ) → 4 ≤ W → KeysRight ps → placed_in W ps (map_of ps) ≡ some w
+pub children_count : (W : ℕ) (ps : List Pair) (w : List ℕ) → 4 ≤ W → KeysRight ps → placed_in W ps (map_of ps) ≡ Some w
     → length (children_in w (slots_used w (slots_in W)) (length (map_of ps))) ≡ count_below (slots_used w (slots_in W)) (is_taken_from2 w)
 children_count W ps w h right e =
     let f = filled (filling W ps w h right e) in

@@ -1,8 +1,7 @@
 -- What a build comes to, refusal by refusal: one that is given ends it, and one that is not given leaves it to the next.
-use Rattle.std.specs.Prelude.{ℕ, zero, suc, ◌≤◌, ◌<◌, ◌≡◌, List, ◌++◌, Bool, true, false, length, drop}
+use Rattle.std.specs.Prelude.{ℕ, zero, suc, ◌≤◌, ◌<◌, ◌≡◌, List, ◌++◌, Bool, true, false, length, drop, Some, None}
 use Rattle.std.proofs.Common.{sym, ◌∙◌, lt-ltb, le-ltb}
 use Rattle.std.proofs.Math.Path.{ap}
-use Rattle.std.proofs.Math.Option.{some, none}
 use Rattle.lxtr_spec.specs.Labels.{max_listed}
 use Rattle.lxtr_spec.specs.KeyLists.{list_refusal, pairs_of}
 use Rattle.lxtr_spec.specs.CodeMaps.{map_of}
@@ -47,11 +46,11 @@ module _ (W R : ℕ) (keys : List ℕ) where
       unfolding from_labels
       labels_few = list_right ∙ ap after_labels (le-ltb max_listed (length labels) few)
 
-      pub none_placed : placed_in W (pairs_of keys) labels ≡ none → outcome_of W R keys ≡ refuses 22
+      pub none_placed : placed_in W (pairs_of keys) labels ≡ None → outcome_of W R keys ≡ refuses 22
       unfolding from_placed
       none_placed e = labels_few ∙ ap (from_placed (slots_in W) R labels) e
 
-      module _ (w image : List ℕ) (placed : placed_in W (pairs_of keys) labels ≡ some w) (is : image ≡ image_in w (slots_used w (slots_in W)) labels) where
+      module _ (w image : List ℕ) (placed : placed_in W (pairs_of keys) labels ≡ Some w) (is : image ≡ image_in w (slots_used w (slots_in W)) labels) where
         all_placed : outcome_of W R keys ≡ with_room R image
         unfolding from_placed
         all_placed = labels_few ∙ ap (from_placed (slots_in W) R labels) placed ∙ ap (with_room R) (sym is)

@@ -1,11 +1,10 @@
 -- Settling a slot: its own words and its children's are written. That is a step, and placing may then go into the children.
 -- The children's slots were free and differ, so a store for one of them leaves the words of the others as they are.
-use Rattle.std.specs.Prelude.{ℕ, zero, suc, ◌+◌, ◌*◌, ◌^◌, ◌<◌, ◌≡◌, refl, ◌≢◌, length, set}
+use Rattle.std.specs.Prelude.{ℕ, zero, suc, ◌+◌, ◌*◌, ◌^◌, ◌<◌, ◌≡◌, refl, ◌≢◌, length, set, Option, Some, None}
 use Rattle.std.proofs.Common.{sym, ◌∙◌, ⊎_elim, arith, length-set}
 use Rattle.std.proofs.Math.Path.{ap, subst}
 use mathlib.Core.List.Memᴰ
 use mathlib.Core.List.{List, [], ◌∷◌, Memᴰ}
-use Rattle.std.proofs.Math.Option.{Option, some, none}
 use Rattle.std.proofs.Math.Logic.{inl}
 use Rattle.std.proofs.Math.Decide.{ℕ_discrete}
 use Rattle.lxtr_spec.specs.Image.{low31}
@@ -136,14 +135,14 @@ pub record Settled (S p v : ℕ) (cs w : List ℕ) (b : ℕ) (u : List ℕ) : Ty
   pub small : b < base_count
   pub is : u ≡ put_children p v b cs (put_parent p b cs w)
 
-pub settle_some : (S p v : ℕ) (cs w : List ℕ) (s : ℕ × List ℕ) → settle S p v cs w ≡ some s → Settled S p v cs w s.0 s.1
+pub settle_some : (S p v : ℕ) (cs w : List ℕ) (s : ℕ × List ℕ) → settle S p v cs w ≡ Some s → Settled S p v cs w s.0 s.1
 unfolding settle
 settle_some S p v cs w s e = go (first_fit S w cs) refl e
   where
     go : (o : Option ℕ) → first_fit S w cs ≡ o
-        → (elim o as (λ _. Option (ℕ × List ℕ)) [ none ↦ none | some b ↦ some (b, put_children p v b cs (put_parent p b cs w)) ]) ≡ some s → Settled S p v cs w s.0 s.1
-    go none f q = absurd (let o : ◌≡◌ {A = ℕ} 0 1 = cc in omega arith)
-    go (some b) f q =
+        → (elim o as (λ _. Option (ℕ × List ℕ)) [ None ↦ None | Some b ↦ Some (b, put_children p v b cs (put_parent p b cs w)) ]) ≡ Some s → Settled S p v cs w s.0 s.1
+    go None f q = absurd (let o : ◌≡◌ {A = ℕ} 0 1 = cc in omega arith)
+    go (Some b) f q =
         let eq : ◌≡◌ {A = ℕ × List ℕ} (b, put_children p v b cs (put_parent p b cs w)) s = cc in
         let found = first_fit_some S w cs b f in
         subst (λ (x : ℕ × List ℕ). Settled S p v cs w x.0 x.1) eq (record { smallest = found.0; small = found.1; is = refl })

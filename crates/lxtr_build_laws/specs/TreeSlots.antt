@@ -1,9 +1,8 @@
 -- Placing takes only the slots of its tree.
-use Rattle.std.specs.Prelude.{ℕ, zero, suc, ◌≤◌, ◌≡◌, ◌⊎◌}
+use Rattle.std.specs.Prelude.{ℕ, zero, suc, ◌≤◌, ◌≡◌, ◌⊎◌, Option, Some, None}
 use Rattle.std.proofs.Math.Path.{refl}
 use Rattle.std.proofs.Common.{sym, ap, ◌∙◌, subst, ⊎_elim, inl, inr, arith}
 use mathlib.Core.List.{List, [], ◌∷◌, Memᴰ}
-use Rattle.std.proofs.Math.Option.{Option, some, none}
 use Rattle.lxtr_spec.specs.Labels.{Pair}
 use Rattle.lxtr_spec.specs.Joining.{slot_under}
 use Rattle.lxtr_spec.specs.Placing.{base_at, child_codes, below, end_value, into_each, place}
@@ -54,8 +53,8 @@ module _ (S : ℕ) (code label : ℕ → ℕ) (k b : ℕ) (g : List Pair) where
   WithinSome cs u t = (c : ℕ) × Memᴰ c cs × (1 ≤ c) × WithinChild c u t
 
   into_each_only : (cs x u : List ℕ) → Rising cs → ((c : ℕ) → Memᴰ c cs → Plain S x (slot_under b c))
-      → ((c : ℕ) (v y : List ℕ) → Plain S v (slot_under b c) → go_into S code label k b g c v ≡ some y → (t : ℕ) → Free v t → Taken y t → WithinChild c y t)
-      → into_each (go_into S code label k b g) cs x ≡ some u → (t : ℕ) → Free x t → Taken u t → WithinSome cs u t
+      → ((c : ℕ) (v y : List ℕ) → Plain S v (slot_under b c) → go_into S code label k b g c v ≡ Some y → (t : ℕ) → Free v t → Taken y t → WithinChild c y t)
+      → into_each (go_into S code label k b g) cs x ≡ Some u → (t : ℕ) → Free x t → Taken u t → WithinSome cs u t
   unfolding into_each Rising
   into_each_only [] x u r ready ih e t f h = let q : x ≡ u = cc in absurd (h (subst (λ (y : List ℕ). Free y t) q f))
   into_each_only (zero ∷ cs) x u r ready ih e t f h =
@@ -66,11 +65,11 @@ module _ (S : ℕ) (code label : ℕ → ℕ) (k b : ℕ) (g : List Pair) where
       here : Plain S x (slot_under b (suc d))
       here = ready (suc d) (Memᴰ.head refl)
 
-      go : ((y : List ℕ) → ((a : ℕ) → Memᴰ a cs → Plain S y (slot_under b a)) → into_each (go_into S code label k b g) cs y ≡ some u → Free y t → Taken u t → WithinSome cs u t)
+      go : ((y : List ℕ) → ((a : ℕ) → Memᴰ a cs → Plain S y (slot_under b a)) → into_each (go_into S code label k b g) cs y ≡ Some u → Free y t → Taken u t → WithinSome cs u t)
           → (o : Option (List ℕ)) → go_into S code label k b g (suc d) x ≡ o
-          → (elim o as (λ _. Option (List ℕ)) [ none ↦ none | some v ↦ into_each (go_into S code label k b g) cs v ]) ≡ some u → WithinSome (suc d ∷ cs) u t
-      go rest none z q = absurd (let o : ◌≡◌ {A = ℕ} 0 1 = cc in omega arith)
-      go rest (some y) z q = ⊎_elim
+          → (elim o as (λ _. Option (List ℕ)) [ None ↦ None | Some v ↦ into_each (go_into S code label k b g) cs v ]) ≡ Some u → WithinSome (suc d ∷ cs) u t
+      go rest None z q = absurd (let o : ◌≡◌ {A = ℕ} 0 1 = cc in omega arith)
+      go rest (Some y) z q = ⊎_elim
           (λ (fy : Free y t). let a = rest y (later_plain S code label k b g d cs x y u r ready z q) q fy h in (a.0, Memᴰ.tail a.1, a.2, a.3))
           (λ (hy : Taken y t). (
             suc d,
@@ -82,7 +81,7 @@ module _ (S : ℕ) (code label : ℕ → ℕ) (k b : ℕ) (g : List Pair) where
           ))
           (free_or_taken y t)
 
-pub place_only : (S : ℕ) (code label : ℕ → ℕ) (k p : ℕ) (g : List Pair) (w u : List ℕ) → Plain S w p → place S code label k p g w ≡ some u
+pub place_only : (S : ℕ) (code label : ℕ → ℕ) (k p : ℕ) (g : List Pair) (w u : List ℕ) → Plain S w p → place S code label k p g w ≡ Some u
     → (t : ℕ) → Free w t → Taken u t → Within code label k u p g t
 unfolding Within
 place_only S code label zero p g w u r e t f h = unfold place in let q : w ≡ u = cc in h (subst (λ (y : List ℕ). Free y t) q f)

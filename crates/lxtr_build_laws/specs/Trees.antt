@@ -1,11 +1,11 @@
 -- What placing leaves: below each slot that it went into, the tree of that slot's group.
 -- Going into a slot changes no words of the trees placed before, since their slots are taken and are not the slot itself.
+use Rattle.std.specs.Prelude.{Option, Some, None}
 use Prim.Native.Nat.{ℕ, zero, suc, ◌+◌, ◌≤◌}
 use Rattle.std.proofs.Math.Path.{◌≡◌, refl, ap, subst}
 use Rattle.std.proofs.Common.{sym, ◌∙◌, arith}
 use mathlib.Core.List.Memᴰ
 use mathlib.Core.List.{List, [], ◌∷◌, Memᴰ}
-use Rattle.std.proofs.Math.Option.{Option, some, none}
 use Rattle.std.proofs.Math.Logic.{⊎_elim}
 use Rattle.lxtr_spec.specs.Labels.{Pair}
 use Rattle.lxtr_spec.specs.Joining.{slot_under}
@@ -70,7 +70,7 @@ module _ (S : ℕ) (code label : ℕ → ℕ) (k b : ℕ) (g : List Pair) where
 
   -- after the first of these codes, placing may still go into the others
   module _ (d : ℕ) (cs x y u : List ℕ) (rising : Rising (suc d ∷ cs)) (ready : (c : ℕ) → Memᴰ c (suc d ∷ cs) → Plain S x (slot_under b c))
-      (here : go_into (suc d) x ≡ some y) (there : into_each go_into cs y ≡ some u) where
+      (here : go_into (suc d) x ≡ Some y) (there : into_each go_into cs y ≡ Some u) where
     first_step : Step S (λ t. t ≡ slot_under b (suc d)) x y
     first_step = place_step S code label k (slot_under b (suc d)) (below (label (suc d)) g) x y (ready (suc d) (Memᴰ.head refl)).ready here
 
@@ -99,18 +99,18 @@ module _ (S : ℕ) (code label : ℕ → ℕ) (k b : ℕ) (g : List Pair) where
   ChildTree x u c = Tree S code label x k u (slot_under b c) (below (label c) g)
 
   into_each_tree : (cs x u : List ℕ) → Rising cs → ((c : ℕ) → Memᴰ c cs → Plain S x (slot_under b c))
-      → ((c : ℕ) (v y : List ℕ) → Plain S v (slot_under b c) → go_into c v ≡ some y → ChildTree v y c)
-      → into_each go_into cs x ≡ some u → (c : ℕ) → Memᴰ c cs → 1 ≤ c → ChildTree x u c
+      → ((c : ℕ) (v y : List ℕ) → Plain S v (slot_under b c) → go_into c v ≡ Some y → ChildTree v y c)
+      → into_each go_into cs x ≡ Some u → (c : ℕ) → Memᴰ c cs → 1 ≤ c → ChildTree x u c
   unfolding into_each Rising
   into_each_tree [] x u r ready ih e c m l = absurd (Memᴰ.not-nil m)
   into_each_tree (zero ∷ cs) x u r ready ih e c m l =
       ⊎_elim (λ (q : c ≡ 0). absurd (omega arith)) (λ n. into_each_tree cs x u r.1 (λ d n. ready d (Memᴰ.tail n)) ih e c n l) (Memᴰ.cases_cons m)
   into_each_tree (suc d ∷ cs) x u r ready ih e c m l = go (λ y rd q. into_each_tree cs y u r.1 rd ih q c) (go_into (suc d) x) refl e
     where
-      go : ((y : List ℕ) → ((a : ℕ) → Memᴰ a cs → Plain S y (slot_under b a)) → into_each go_into cs y ≡ some u → Memᴰ c cs → 1 ≤ c → ChildTree y u c)
-          → (o : Option (List ℕ)) → go_into (suc d) x ≡ o → (elim o as (λ _. Option (List ℕ)) [ none ↦ none | some v ↦ into_each go_into cs v ]) ≡ some u → ChildTree x u c
-      go rest none h q = absurd (let o : ◌≡◌ {A = ℕ} 0 1 = cc in omega arith)
-      go rest (some y) h q = ⊎_elim
+      go : ((y : List ℕ) → ((a : ℕ) → Memᴰ a cs → Plain S y (slot_under b a)) → into_each go_into cs y ≡ Some u → Memᴰ c cs → 1 ≤ c → ChildTree y u c)
+          → (o : Option (List ℕ)) → go_into (suc d) x ≡ o → (elim o as (λ _. Option (List ℕ)) [ None ↦ None | Some v ↦ into_each go_into cs v ]) ≡ Some u → ChildTree x u c
+      go rest None h q = absurd (let o : ◌≡◌ {A = ℕ} 0 1 = cc in omega arith)
+      go rest (Some y) h q = ⊎_elim
           (λ (z : c ≡ suc d). subst (ChildTree x u) (sym z) (first_tree_kept d cs x y u r ready h q (below (label (suc d)) g) (ih (suc d) x y (ready (suc d) (Memᴰ.head refl)) h)))
           (λ n. tree_older S code label x y (free_before (first_step d cs x y u r ready h q)) k u (slot_under b c) (below (label c) g) (rest y (later_plain d cs x y u r ready h q) q n l))
           (Memᴰ.cases_cons m)
@@ -122,17 +122,17 @@ pub record PlacedSlot (S : ℕ) (code label : ℕ → ℕ) (k p : ℕ) (g : List
   pub base : ℕ
   pub between : List ℕ
   pub settled : Settled S p (end_value g) (child_codes code g []) w base between
-  pub into : into_each (go_into S code label k base g) (child_codes code g []) between ≡ some u
+  pub into : into_each (go_into S code label k base g) (child_codes code g []) between ≡ Some u
 
-pub placed_slot : (S : ℕ) (code label : ℕ → ℕ) (k p : ℕ) (g : List Pair) (w u : List ℕ) → place S code label (suc k) p g w ≡ some u → PlacedSlot S code label k p g w u
+pub placed_slot : (S : ℕ) (code label : ℕ → ℕ) (k p : ℕ) (g : List Pair) (w u : List ℕ) → place S code label (suc k) p g w ≡ Some u → PlacedSlot S code label k p g w u
 unfolding place
 placed_slot S code label k p g w u e = go (settle S p (end_value g) (child_codes code g []) w) refl e
   where
     go : (o : Option (ℕ × List ℕ)) → settle S p (end_value g) (child_codes code g []) w ≡ o
-        → (elim o as (λ _. Option (List ℕ)) [ none ↦ none | some s ↦ into_each (λ c w'. place S code label k (slot_under s.0 c) (below (label c) g) w') (child_codes code g []) s.1 ]) ≡ some u
+        → (elim o as (λ _. Option (List ℕ)) [ None ↦ None | Some s ↦ into_each (λ c w'. place S code label k (slot_under s.0 c) (below (label c) g) w') (child_codes code g []) s.1 ]) ≡ Some u
         → PlacedSlot S code label k p g w u
-    go none h q = absurd (let o : ◌≡◌ {A = ℕ} 0 1 = cc in omega arith)
-    go (some s) h q = record { base = s.0; between = s.1; settled = settle_some S p (end_value g) (child_codes code g []) w s h; into = q }
+    go None h q = absurd (let o : ◌≡◌ {A = ℕ} 0 1 = cc in omega arith)
+    go (Some s) h q = record { base = s.0; between = s.1; settled = settle_some S p (end_value g) (child_codes code g []) w s h; into = q }
 
 module _ (S : ℕ) (code label : ℕ → ℕ) (k p : ℕ) (g : List Pair) (w u : List ℕ) (start : Plain S w p) (n : PlacedSlot S code label k p g w u) where
   abbrev codes : List ℕ
@@ -154,7 +154,7 @@ module _ (S : ℕ) (code label : ℕ → ℕ) (k p : ℕ) (g : List Pair) (w u :
   placed_first : Step S (λ t. t ≡ p) w n.between
   placed_first = settle_step S p (end_value g) codes w n.base n.between start.ready n.settled rising
 
-pub place_tree : (S : ℕ) (code label : ℕ → ℕ) (k p : ℕ) (g : List Pair) (w u : List ℕ) → Plain S w p → place S code label k p g w ≡ some u → Tree S code label w k u p g
+pub place_tree : (S : ℕ) (code label : ℕ → ℕ) (k p : ℕ) (g : List Pair) (w u : List ℕ) → Plain S w p → place S code label k p g w ≡ Some u → Tree S code label w k u p g
 unfolding Tree
 place_tree S code label zero p g w u r e = tt
 place_tree S code label (suc k) p g w u r e =

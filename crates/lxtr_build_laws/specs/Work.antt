@@ -1,6 +1,5 @@
 -- The lent work before placing, and what the code's answer after placing means.
-use Rattle.std.specs.Prelude.{ℕ, ◌≤◌, ◌≡◌, List, Bool, true, false, length, replicate}
-use Rattle.std.proofs.Math.Option.{Option, some, none}
+use Rattle.std.specs.Prelude.{ℕ, ◌≤◌, ◌≡◌, List, Bool, true, false, length, replicate, Option, Some, None}
 
 -- work of 4 words or more, all zero
 pub record Cleared (w : List ℕ) : Type 0 where
@@ -9,5 +8,5 @@ pub record Cleared (w : List ℕ) : Type 0 where
 
 -- what the code answers: whether each slot found a base, and the work afterwards
 unfoldable pub placed_as : Bool → List ℕ → Option (List ℕ)
-placed_as true w = some w
-placed_as false w = none
+placed_as true w = Some w
+placed_as false w = None

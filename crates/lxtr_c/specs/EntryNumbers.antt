@@ -1,8 +1,7 @@
 -- The number that a C function returns is the number of the operation's answer.
-use Rattle.std.specs.Prelude.{ℕ, ◌*◌, ◌/◌, ◌^◌, ◌<◌, ◌≡◌, refl, ◌≢◌, List, Bool}
+use Rattle.std.specs.Prelude.{ℕ, ◌*◌, ◌/◌, ◌^◌, ◌<◌, ◌≡◌, refl, ◌≢◌, List, Bool, Option, Some, None}
 use Rattle.std.proofs.Common.{arith, sym, ◌∙◌}
 use Rattle.std.proofs.Math.Path.{ap, ap₂}
-use Rattle.std.proofs.Math.Option.{Option}
 use Rattle.std.proofs.Math.Bool.{false}
 use Rattle.std.proofs.Math.ListN.{length}
 use Rattle.std.proofs.Math.Seq.{length-take-le}
@@ -15,26 +14,24 @@ use Rattle.lxtr_spec.specs.Searches.{search_refusal, case_value, case_longer, ca
 use Rattle.lxtr_spec.specs.Reasons.{why_of}
 use Rattle.lxtr_spec.specs.Completions.{CompletionAnswer, completion_of}
 use Rattle.lxtr_spec.specs.Builds.{BuildAnswer, build_of}
-use Rattle.lxtr_spec.specs.Answers.{found, highest_means}
+use Rattle.lxtr_spec.specs.Answers.{highest_means}
 use Rattle.lxtr_spec.specs.HostNumbers.{host_number, value_numbered, fault_numbered, check_number, fault_number, highest_number, exact_numbered, probe_numbered, exact_number, probe_number, longest_number, reason_numbered, why_number, HostPrefixes, alternately, at_front, prefixes_number, places_after, host_prefixes_of, HostCompletion, completion_number, host_completion_of, HostBuild, built_number, host_build_of}
 use Rattle.lxtr_laws.specs.Limit.{length_fits_byte}
 use Rattle.lxtr_laws.specs.RefusalChains.{stands}
 use Rattle.lxtr_laws.specs.Cases.{value_there}
 use Rattle.lxtr_laws.specs.SearchReturns.{lookup_refused, lookup_passed}
 use Rattle.lxtr_search.specs.Kept.{longest_bytes, longest_limit}
-use Rattle.lxtr_spec.specs.declared.Verdict.{Verdict}
+use Rattle.lxtr_spec.specs.Refusals.{Verdict}
 use Rattle.lxtr_spec.specs.declared.Fault.{Fault}
-use Rattle.lxtr_spec.specs.declared.Found.{Found}
-use Rattle.lxtr_spec.specs.declared.Found.TheVariants.{Is, Nothing}
 use Rattle.lxtr_spec.specs.declared.Highest.{Highest}
-use Rattle.lxtr_spec.specs.declared.Lookup.{Lookup}
-use Rattle.lxtr_spec.specs.declared.Prefixes.{Prefixes}
-use Rattle.lxtr_spec.specs.declared.Why.{Why}
-use Rattle.lxtr_spec.specs.declared.Completion.{Completion}
-use Rattle.lxtr_spec.specs.declared.Built.{Built}
+use Rattle.lxtr_spec.specs.Searches.{Lookup}
+use Rattle.lxtr_spec.specs.Searches.{Prefixes}
+use Rattle.lxtr_spec.specs.Reasons.{Why}
+use Rattle.lxtr_spec.specs.Completions.{Completion}
+use Rattle.lxtr_spec.specs.Builds.{Built}
 
 -- the number that probe answers; f is the value of the case, and l whether longer keys exist
-pub probe_numbered_lem : (a : Lookup) (f : Found) (l : Bool) (n : ℕ) → found f ≡ case_value a.case → l ≡ case_longer a.case → n ≡ value_numbered a.refusal l (found f) → n ≡ probe_numbered a
+pub probe_numbered_lem : (a : Lookup) (f : Option ℕ) (l : Bool) (n : ℕ) → f ≡ case_value a.case → l ≡ case_longer a.case → n ≡ value_numbered a.refusal l f → n ≡ probe_numbered a
 unfolding probe_numbered
 probe_numbered_lem a f l n value longer h = rw (← value, ← longer) h
 
@@ -47,7 +44,7 @@ module _ (b : List ℕ) where
   unfolding check_number
   check_number_lem v n e h = rw (← e) h
 
-  pub highest_number_lem : (a : Highest) (n : ℕ) → highest_means a ≡ highest_of b → n ≡ value_numbered a.refusal false (found a.value) → n ≡ highest_number b
+  pub highest_number_lem : (a : Highest) (n : ℕ) → highest_means a ≡ highest_of b → n ≡ value_numbered a.refusal false a.value → n ≡ highest_number b
   unfolding highest_number
   highest_number_lem a n e h = rw (← e) h
 
@@ -58,16 +55,16 @@ module _ (b : List ℕ) where
       unfolding exact_number exact_numbered case_value value_numbered
       exact_refused h e = e ∙ ap exact_numbered (lookup_refused b q r known h)
 
-      module _ (z : r ≡ 0) (f : Found) (walked : found f ≡ walk_within b (labels_of q)) where
-        by_value : value_numbered 0 false (value_reached b (found f)) ≡ exact_number b q
+      module _ (z : r ≡ 0) (f : Option ℕ) (walked : f ≡ walk_within b (labels_of q)) where
+        by_value : value_numbered 0 false (value_reached b f) ≡ exact_number b q
         unfolding exact_number exact_numbered
-        by_value = ap₂ (λ (k : ℕ) (v : Option ℕ). value_numbered k false v) (sym z) (sym (value_there b (found f))) ∙ ap exact_numbered (lookup_passed b q r known z f (case_at b (found f)) walked refl)
+        by_value = ap₂ (λ (k : ℕ) (v : Option ℕ). value_numbered k false v) (sym z) (sym (value_there b f)) ∙ ap exact_numbered (lookup_passed b q r known z f (case_at b f) walked refl)
 
-        pub exact_nowhere : f ≡ Nothing → n ≡ host_number 0 false false 0 → n ≡ exact_number b q
+        pub exact_nowhere : f ≡ None → n ≡ host_number 0 false false 0 → n ≡ exact_number b q
         unfolding value_numbered value_reached
         exact_nowhere h e = e ∙ rw h at by_value
 
-        pub exact_reached : (m : ℕ) (v : Found) → f ≡ Is m → found v ≡ value_at b m → n ≡ value_numbered 0 false (found v) → n ≡ exact_number b q
+        pub exact_reached : (m : ℕ) (v : Option ℕ) → f ≡ Some m → v ≡ value_at b m → n ≡ value_numbered 0 false v → n ≡ exact_number b q
         unfolding value_reached
         exact_reached m v h value e = e ∙ ap (value_numbered 0 false) value ∙ rw h at by_value
 

@@ -3,7 +3,7 @@ use Rattle.std.specs.Prelude.{ℕ, ◌≡◌, List}
 use Rattle.std.proofs.Common.{ap, ◌∙◌}
 use Rattle.lxtr_spec.specs.Positions.{fresh_position, push_of, back_of, position_lookup_of}
 use Rattle.lxtr_spec.specs.HostNumbers.{probe_numbered, position_number, position_of, host_fresh, host_push_of, host_back_of, position_probe_number}
-use Rattle.lxtr_spec.specs.declared.Lookup.{Lookup}
+use Rattle.lxtr_spec.specs.Searches.{Lookup}
 use Rattle.lxtr_position.specs.Means.{position_means, moved_means}
 use Rattle.lxtr_position.specs.declared.Position.{Position}
 use Rattle.lxtr_position.specs.declared.Moved.{Moved}

@@ -6,8 +6,8 @@ use Rattle.lxtr_laws.specs.RefusalChains.{stands}
 use Rattle.lxtr_entries_spec.specs.EntryTables.{table_verdict_of}
 use Rattle.lxtr_entries_spec.specs.EntryLookups.{located_of}
 use Rattle.lxtr_entries_spec.specs.HostEntries.{table_number, HostEntries, host_located, host_entries_of}
-use Rattle.lxtr_entries_spec.specs.declared.TableVerdict.{TableVerdict}
-use Rattle.lxtr_entries_spec.specs.declared.Located.{Located}
+use Rattle.lxtr_entries_spec.specs.EntryTables.{TableVerdict}
+use Rattle.lxtr_entries_spec.specs.EntryLookups.{Located}
 
 pub table_number_lem : (b t : List ℕ) (v : TableVerdict) (n : ℕ) → v ≡ table_verdict_of b t → n ≡ host_number v.refusal false false v.entries → n ≡ table_number b t
 unfolding table_number

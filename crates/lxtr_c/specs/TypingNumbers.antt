@@ -7,7 +7,7 @@ use Rattle.lxtr_laws.specs.RefusalChains.{stands}
 use Rattle.romaji_spec.specs.Typing.{TypingAnswer, state_of, type_of, finish_of}
 use Rattle.romaji_spec.specs.HostStates.{state_bytes, kept_bytes, HostTyping, host_typing, host_type_of, host_finish_of}
 use Rattle.romaji_spec.specs.declared.State.{State}
-use Rattle.romaji_spec.specs.declared.Typed.{Typed}
+use Rattle.romaji_spec.specs.Typing.{Typed}
 
 -- the state after a refusal, and after an answer
 module _ (a : Typed) (bytes : List ℕ) where

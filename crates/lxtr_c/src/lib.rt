@@ -21,7 +21,7 @@ use lxtr_position::numbers::{position_number, position_of};
 use lxtr_search::cases::{found_value, has_longer};
 use lxtr_search::matches::put_prefixes;
 use lxtr_search::{longest, lookup};
-use lxtr_spec::{Found, LENGTH_COUNT, Lookup};
+use lxtr_spec::{LENGTH_COUNT, Lookup};
 use lxtr_walk::{search_refusal, value_at, walk_within};
 use lxtr_why::why;
 use romaji::states::{put_state, read_state};
@@ -64,7 +64,7 @@ pub extern "C" fn lxtr_exact(image: &[u8], query: &[u8]) -> u64
     if number != 0 {
         return host_number(number, false, false, 0);
     }
-    let Found::Is(n) = walk_within(image, query) else {
+    let Some(n) = walk_within(image, query) else {
         return host_number(0, false, false, 0);
     };
     value_numbered(0, false, value_at(image, n))

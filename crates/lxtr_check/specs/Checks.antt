@@ -2,7 +2,7 @@
 use Rattle.std.specs.Prelude.{ℕ, ◌≡◌, ◌≢◌, List}
 use Rattle.std.proofs.Common.{sym, ◌∙◌}
 use Rattle.lxtr_spec.specs.Refusals.{first_refusal, unless_refused, header_refusal, body_refusal, image_refusal, end_count, check_of}
-use Rattle.lxtr_spec.specs.declared.Verdict.{Verdict}
+use Rattle.lxtr_spec.specs.Refusals.{Verdict}
 use Rattle.lxtr_laws.specs.RefusalChains.{first_stands, stands}
 use Rattle.lxtr_laws.specs.Passed.{Whole, Passed, header_passed}
 use Rattle.lxtr_laws.specs.Faults.{parts_pass}

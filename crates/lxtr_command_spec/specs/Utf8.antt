@@ -1,9 +1,8 @@
 -- RFC 3629: text in UTF-8 and the labels that it stands for.
-use Rattle.std.specs.Prelude.{ℕ, zero, suc, ◌+◌, ◌*◌, ◌/◌, ◌%◌, List, [], ◌∷◌, ◌++◌, Bool, true, false, ◌&&◌, cond, length, drop, ltb, eqb}
-use Rattle.std.proofs.Math.Option.{Option, some, none}
+use Rattle.std.specs.Prelude.{ℕ, zero, suc, ◌+◌, ◌*◌, ◌/◌, ◌%◌, List, [], ◌∷◌, ◌++◌, Bool, true, false, ◌&&◌, cond, length, drop, ltb, eqb, Option, Some, None}
 use Rattle.lxtr_spec.specs.Numbers.{byte_at, be_words}
 use Rattle.lxtr_spec.specs.Labels.{is_scalar}
-use Rattle.lxtr_command_spec.specs.declared.Decoded.{Decoded}
+use Rattle.lxtr_command_spec.specs.Utf8.{Decoded}
 
 -- Section 3, the table: the bytes of a character number. A byte 10xxxxxx holds the six lowest bits of n.
 abbrev pub tail_byte : ℕ → ℕ
@@ -51,18 +50,18 @@ unfoldable pub begins_right : List ℕ → Bool
 begins_right t = is_scalar (front_number t) && begins_with t (utf8 (front_number t))
 
 unfoldable pub option_cons : ℕ → Option (List ℕ) → Option (List ℕ)
-option_cons x none = none
-option_cons x (some xs) = some (x ∷ xs)
+option_cons x None = None
+option_cons x (Some xs) = Some (x ∷ xs)
 
 -- the labels of a text of at most k characters; none if it is not UTF-8
 unfoldable pub labels_within : ℕ → List ℕ → Option (List ℕ)
-labels_within zero t = elim (eqb (length t) 0) [ true ↦ some [] | false ↦ none ]
+labels_within zero t = elim (eqb (length t) 0) [ true ↦ Some [] | false ↦ None ]
 labels_within (suc k) t =
     elim (eqb (length t) 0) [
-      | true ↦ some []
+      | true ↦ Some []
       | false ↦ elim (begins_right t) [
         | true ↦ option_cons (front_number t) (labels_within k (drop (length (utf8 (front_number t))) t))
-        | false ↦ none
+        | false ↦ None
       ]
     ]
 
@@ -72,8 +71,8 @@ labels_of_text t = labels_within (length t) t
 
 -- how many labels there are; problem 1: the text is not UTF-8
 unfoldable pub counted : Option (List ℕ) → Decoded
-counted none = record { problem = 1; count = 0 }
-counted (some xs) = record { problem = 0; count = length xs }
+counted None = record { problem = 1; count = 0 }
+counted (Some xs) = record { problem = 0; count = length xs }
 
 unfoldable pub count_of : List ℕ → Decoded
 count_of text = counted (labels_of_text text)
@@ -85,8 +84,8 @@ pub record DecodingAnswer : Type 0 where
   pub room : List ℕ
 
 unfoldable pub decoding : List ℕ → Option (List ℕ) → DecodingAnswer
-decoding room none = record { answer = record { problem = 1; count = 0 }; room = room }
-decoding room (some xs) =
+decoding room None = record { answer = record { problem = 1; count = 0 }; room = room }
+decoding room (Some xs) =
     elim (ltb (length room) (4 * length xs)) [
       | true ↦ record { answer = record { problem = 4; count = 0 }; room = room }
       | false ↦ record { answer = record { problem = 0; count = length xs }; room = be_words xs ++ drop (4 * length xs) room }

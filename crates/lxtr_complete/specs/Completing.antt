@@ -1,5 +1,5 @@
 -- Completion as the code makes it: the refusals, the labels of the prefix in a path, the listing below the slot that they reach.
-use Rattle.std.specs.Prelude.{ℕ, ◌+◌, ◌-◌, ◌^◌, ◌≤◌, ◌<◌, ◌≡◌, refl, List, [], ◌∷◌, length, take, set, get_or, eqb}
+use Rattle.std.specs.Prelude.{ℕ, ◌+◌, ◌-◌, ◌^◌, ◌≤◌, ◌<◌, ◌≡◌, refl, List, [], ◌∷◌, length, take, set, get_or, eqb, Some, None, Option}
 use Rattle.std.proofs.Math.Path.{sym}
 use Rattle.std.proofs.Common.{◌∙◌, add-one, arith, length-set, take-suc, take-suc-set}
 use Rattle.std.proofs.Math.Bool.{false}
@@ -12,9 +12,6 @@ use Rattle.lxtr_spec.specs.Refusals.{refuse_if, first_refusal, unless_refused, h
 use Rattle.lxtr_spec.specs.Walks.{walk_within}
 use Rattle.lxtr_spec.specs.Searches.{search_refusal}
 use Rattle.lxtr_spec.specs.Completions.{list_from, pairs_at, pairs_below, CompletionAnswer, completion_answer, written, completion_refusal, completion_of}
-use Rattle.lxtr_spec.specs.Answers.{found}
-use Rattle.lxtr_spec.specs.declared.Found.{Found}
-use Rattle.lxtr_spec.specs.declared.Found.TheVariants.{Is, Nothing}
 use Rattle.lxtr_laws.specs.RefusalChains.{none_refused, none_first, first_stands, stands}
 use Rattle.lxtr_laws.specs.RangeTests.{tests}
 use Rattle.lxtr_laws.specs.Facts.{Accepted}
@@ -71,12 +68,12 @@ unfolding after
 written_none room r h e = written_done room room r [] 5 0 h refl e
 
 -- the pairs below the slot that the walk reached; f is the walk's answer
-module _ (b xs room : List ℕ) (f : Found) (answer : found f ≡ walk_within b xs) (r : CompletionAnswer) where
-  pub listed_nowhere : f ≡ Nothing → r ≡ written room [] → r ≡ written room (pairs_below b xs)
+module _ (b xs room : List ℕ) (f : Option ℕ) (answer : f ≡ walk_within b xs) (r : CompletionAnswer) where
+  pub listed_nowhere : f ≡ None → r ≡ written room [] → r ≡ written room (pairs_below b xs)
   unfolding pairs_below pairs_at
   listed_nowhere h e = rw (found_none f (walk_within b xs) answer h) e
 
-  pub listed_reached : (n : ℕ) → f ≡ Is n → r ≡ written room (list_from b (length_count - length xs) n xs) → r ≡ written room (pairs_below b xs)
+  pub listed_reached : (n : ℕ) → f ≡ Some n → r ≡ written room (list_from b (length_count - length xs) n xs) → r ≡ written room (pairs_below b xs)
   unfolding pairs_below pairs_at
   listed_reached n h e = rw (found_is f n (walk_within b xs) answer h) e
 

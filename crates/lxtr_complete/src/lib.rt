@@ -17,7 +17,7 @@ use lxtr_bytes::heads::{HEAD_LENGTH, put_head};
 use lxtr_bytes::labels::{label_at, label_count};
 use lxtr_check::body_refusal;
 use lxtr_spec::refusals::ROOM_TOO_SMALL;
-use lxtr_spec::{Completion, Found, LENGTH_COUNT};
+use lxtr_spec::{Completion, LENGTH_COUNT};
 use lxtr_walk::{search_refusal, walk_within};
 
 // Writes the labels of a query to the front of a path.
@@ -89,7 +89,7 @@ fn list_pairs(image: &[u8], query: &[u8], room: &mut [u8]) -> Completion
     requires in_bounds { 5 ≤ length room.old }
     ensures { record { answer = result; room = room.new } ≡ written room.old (pairs_below image.now (labels_of query.now)) }
 {
-    let Found::Is(n) = walk_within(image, query) else {
+    let Some(n) = walk_within(image, query) else {
         return list_none(room);
     };
     list_reached(image, n, query, room)

@@ -1,9 +1,8 @@
 -- Demand 2 for the builder: from a sorted key list the image built is the one the first-fit rule gives, and it reads back as
 -- those keys, numbered from 0. Only the statements: the demand, of any program, which the definitions meet by `demand2_builder`, and
 -- their code map, by `codes_by_frequency`; both in Laws/Builder.antt.
-use Rattle.std.specs.Prelude.{ℕ, zero, suc, ◌≤◌, ◌<◌, ◌≡◌, ◌↔◌, ◌⊎◌, ◌≢◌, false, length, drop, replicate}
+use Rattle.std.specs.Prelude.{ℕ, zero, suc, ◌≤◌, ◌<◌, ◌≡◌, ◌↔◌, ◌⊎◌, ◌≢◌, false, length, drop, replicate, Some}
 use mathlib.Core.List.{List, [], ◌∷◌, ◌++◌, Memᴰ}
-use Rattle.std.proofs.Math.Option.{some}
 use Rattle.lxtr_spec.specs.Numbers.{be_words}
 use Rattle.lxtr_spec.specs.Labels.{length_count, max_listed, labels_of, Pair}
 use Rattle.lxtr_spec.specs.Joining.{slot_under}
@@ -32,9 +31,9 @@ pub record ReadsBack (o : Operations) (keys image : List ℕ) : Type 0 where
   -- So the check accepts it with that count,
   pub checked : o.check image ≡ record { refusal = 0; pairs = key_count keys }
   -- lookup finds each key's number
-  pub lookup : (k : List ℕ) (v : ℕ) → Memᴰ (k, v) (pairs_of keys) → GivesValue o image (be_words k) (some v)
+  pub lookup : (k : List ℕ) (v : ℕ) → Memᴰ (k, v) (pairs_of keys) → GivesValue o image (be_words k) (Some v)
   -- and nothing else,
-  pub lookup_only : (q : List ℕ) (v : ℕ) → case_value (o.lookup image q).case ≡ some v → Memᴰ (labels_of q, v) (pairs_of keys)
+  pub lookup_only : (q : List ℕ) (v : ℕ) → case_value (o.lookup image q).case ≡ Some v → Memᴰ (labels_of q, v) (pairs_of keys)
   -- and completing the empty prefix with room enough lists the keys, in code order.
   pub listing : (ps : List Pair) × Lists image pair_set [] ps
   pub completion : (ps : List Pair) (room : List ℕ) → Lists image pair_set [] ps → room_for ps ≤ length room

@@ -1,8 +1,7 @@
 -- Demand 2 for the searches and completions: what each answers over an image is what the image's set of pairs says.
 -- Only the statements, of any program; that the definitions meet them is `demand2` in Laws/Demand2.antt and `searches_agree` in
 -- Laws/Searches.antt.
-use Rattle.std.specs.Prelude.{ℕ, ◌*◌, ◌%◌, ◌≤◌, ◌≡◌, List, ◌++◌, length, take, drop, ltb}
-use Rattle.std.proofs.Math.Option.{Option}
+use Rattle.std.specs.Prelude.{ℕ, ◌*◌, ◌%◌, ◌≤◌, ◌≡◌, List, ◌++◌, length, take, drop, ltb, Option}
 use Rattle.lxtr_spec.specs.Labels.{labels_of, Pair}
 use Rattle.lxtr_spec.specs.Searches.{search_refusal, case_value, value_within, prefixes_answer}
 use Rattle.lxtr_spec.specs.Completions.{listing_of, room_for}

@@ -8,9 +8,9 @@ use Rattle.lxtr_spec.specs.HighestValues.{HighestAnswer, highest_of}
 use Rattle.lxtr_spec.specs.Searches.{LongestAnswer, lookup_of, prefixes_of, longest_of}
 use Rattle.lxtr_spec.specs.Completions.{CompletionAnswer, completion_of}
 use Rattle.lxtr_spec.specs.Builds.{BuildAnswer, build_of}
-use Rattle.lxtr_spec.specs.declared.Verdict.{Verdict}
-use Rattle.lxtr_spec.specs.declared.Lookup.{Lookup}
-use Rattle.lxtr_spec.specs.declared.Prefixes.{Prefixes}
+use Rattle.lxtr_spec.specs.Refusals.{Verdict}
+use Rattle.lxtr_spec.specs.Searches.{Lookup}
+use Rattle.lxtr_spec.specs.Searches.{Prefixes}
 
 pub record Operations : Type 0 where
   -- take an image

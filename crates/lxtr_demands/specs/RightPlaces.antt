@@ -14,7 +14,7 @@ pub record First (n : ℕ) (f : ℕ → Bool) (i : ℕ) : Type 0 where
   pub here : f i ≡ true
   pub none_before : (j : ℕ) → j < i → f j ≡ false
 
-abbrev pub None : ℕ → (ℕ → Bool) → Type 0
+abbrev pub none : ℕ → (ℕ → Bool) → Type 0
 None n f = (i : ℕ) → i < n → f i ≡ false
 
 -- 11: entry j of the list of slot p is outside 2 to N-1, unused or has another parent, or its code is not above that of the entry

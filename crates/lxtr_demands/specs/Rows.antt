@@ -1,6 +1,5 @@
 -- Rows of a table of examples: what is run on the definitions, and what it has to give.
-use Rattle.std.specs.Prelude.{ℕ, ◌+◌, ◌-◌, ◌*◌, ◌^◌, ◌≡◌, List, [], ◌++◌, true, false, cond, ltb, length, replicate}
-use Rattle.std.proofs.Math.Option.{Option, none}
+use Rattle.std.specs.Prelude.{ℕ, ◌+◌, ◌-◌, ◌*◌, ◌^◌, ◌≡◌, List, [], ◌++◌, true, false, cond, ltb, length, replicate, Option, None}
 use Rattle.lxtr_spec.specs.Ranges.{any_below, count_below, first_from, first_below, concat_from}
 use Rattle.lxtr_spec.specs.Numbers.{le32, be32, le_bytes, be_bytes, le_words, be_words}
 use Rattle.lxtr_spec.specs.Labels.{Pair, is_scalar, max_labels, length_count, comes_before, labels_from, labels_of}
@@ -94,7 +93,7 @@ Holds (refused b k) =
     × (completion_of b [] (unwritten 40) ≡ record { answer = record { refusal = k; count = 0; stopped = false }; room = unwritten 40 })
 Holds (fault_at b f n) = (fault_of b ≡ f) × (fault_number b ≡ n)
 Holds (highest b v n) = (highest_of b ≡ record { refusal = 0; value = v }) × (highest_number b ≡ n)
-Holds (highest_refused b k) = (highest_of b ≡ record { refusal = k; value = none }) × (highest_number b ≡ k * 2 ^ 40)
+Holds (highest_refused b k) = (highest_of b ≡ record { refusal = k; value = None }) × (highest_number b ≡ k * 2 ^ 40)
 Holds (lookup b xs c n m) = (lookup_of b (be_words xs) ≡ record { refusal = 0; case = c }) × (exact_number b (be_words xs) ≡ n) × (probe_number b (be_words xs) ≡ m)
 Holds (prefixes b xs lengths values) =
     prefixes_of b (be_words xs) ≡ record { refusal = 0; count = length lengths; lengths = lengths ++ replicate (length_count - length lengths) 0; values = values ++ replicate (length_count - length values) 0 }

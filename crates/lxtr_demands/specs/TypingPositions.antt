@@ -12,7 +12,7 @@ use Rattle.lxtr_spec.specs.HostNumbers.{probe_number, position_of, host_fresh, h
 use Rattle.lxtr_spec.specs.Sets.{PairSet, ImageOf}
 use Rattle.lxtr_spec.specs.Meaning.{CaseIn}
 use Rattle.lxtr_spec.specs.declared.Case.TheVariants.{Neither}
-use Rattle.lxtr_spec.specs.declared.Lookup.{Lookup}
+use Rattle.lxtr_spec.specs.Searches.{Lookup}
 
 -- A move: one more label, or the last one taken back.
 pub data Move : Type 0 where

@@ -1,20 +1,16 @@
 -- Where the entries of a query lie, as the code finds it: first the refusals, then the pair of offsets. The part that is handed back
 -- lies there. Results of calls are variables: each law says that what one return computes is the definition's answer.
-use Rattle.std.specs.Prelude.{ℕ, ◌+◌, ◌*◌, ◌-◌, ◌≤◌, ◌<◌, ◌^◌, ◌≡◌, ◌≢◌, List, Bool, true, false, ◌||◌, cond, length, take, drop, ltb, eqb}
+use Rattle.std.specs.Prelude.{ℕ, ◌+◌, ◌*◌, ◌-◌, ◌≤◌, ◌<◌, ◌^◌, ◌≡◌, ◌≢◌, List, Bool, true, false, ◌||◌, cond, length, take, drop, ltb, eqb, Some, None, Option}
 use Rattle.std.proofs.Common.{arith, ◌∙◌}
 use Rattle.std.proofs.Math.Path.{sym, ap}
-use Rattle.std.proofs.Math.Option.{some}
 use borrow.Author.Tests.{lt-ltb, le-ltb, le-leb, lt-leb, eq-eqb, ne_eqb}
 use Rattle.lxtr_spec.specs.Refusals.{refuse_if, first_refusal, unless_refused}
 use Rattle.lxtr_spec.specs.Searches.{search_refusal, case_value, lookup_of}
-use Rattle.lxtr_spec.specs.Answers.{found}
-use Rattle.lxtr_spec.specs.declared.Found.{Found}
-use Rattle.lxtr_spec.specs.declared.Found.TheVariants.{Is, Nothing}
-use Rattle.lxtr_spec.specs.declared.Lookup.{Lookup}
+use Rattle.lxtr_spec.specs.Searches.{Lookup}
 use Rattle.lxtr_laws.specs.RefusalChains.{first_stands, stands}
 use Rattle.lxtr_entries_spec.specs.EntryTables.{entry_size, value_count, table_offset, entries_at, entry_count, entry_bytes, own_count, form_wrong, falls, pair_wrong, value_beyond}
 use Rattle.lxtr_entries_spec.specs.EntryLookups.{query_value, pair_refusal, entries_refusal, EntriesAnswer, entries_of, located_by, nowhere, located_of}
-use Rattle.lxtr_entries_spec.specs.declared.Located.{Located}
+use Rattle.lxtr_entries_spec.specs.EntryLookups.{Located}
 use Rattle.lxtr_entries_laws.specs.TableFacts.{has_head}
 use Rattle.lxtr_entries_laws.specs.Parts.{same_part, LiesIn, located_within}
 
@@ -54,10 +50,10 @@ module _ (t : List ℕ) (from to : ℕ) where
 
 -- the answer for a query with value v, if the table's form is right: 27, then the pair
 abbrev pub value_refusal : List ℕ → ℕ → ℕ
-value_refusal t v = refuse_if (value_beyond t (some v)) 27 (pair_refusal t (some v))
+value_refusal t v = refuse_if (value_beyond t (Some v)) 27 (pair_refusal t (Some v))
 
 abbrev pub located_in : List ℕ → ℕ → Located
-located_in t v = unless_refused (value_refusal t v) (located_by t (some v)) (nowhere (value_refusal t v))
+located_in t v = unless_refused (value_refusal t v) (located_by t (Some v)) (nowhere (value_refusal t v))
 
 -- n is V, i the value as an index
 module _ (t : List ℕ) (v n : ℕ) (count : n ≡ value_count t) where
@@ -94,18 +90,18 @@ module _ (b q t : List ℕ) (a : Lookup) (known : a ≡ lookup_of b q) where
     form_refused r h e = rw (sym refusal_same ∙ fine, sym form ∙ h) e
 
     -- f is the value of the query
-    module _ (right : w ≡ false) (f : Found) (value : found f ≡ case_value a.case) where
-      asked : query_value b q ≡ found f
+    module _ (right : w ≡ false) (f : Option ℕ) (value : f ≡ case_value a.case) where
+      asked : query_value b q ≡ f
       unfolding query_value
       asked = ap (λ (l : Lookup). case_value l.case) (sym known) ∙ sym value
 
-      pub no_value : f ≡ Nothing → ◌≡◌ {A = Located} (record { refusal = 0; valued = false; first = 0; count = 0 }) (located_of b q t)
+      pub no_value : f ≡ None → ◌≡◌ {A = Located} (record { refusal = 0; valued = false; first = 0; count = 0 }) (located_of b q t)
       unfolding located_of entries_refusal first_refusal refuse_if unless_refused value_beyond pair_refusal located_by
-      no_value h = rw (sym refusal_same ∙ fine, sym form ∙ right, asked ∙ ap found h)
+      no_value h = rw (sym refusal_same ∙ fine, sym form ∙ right, asked ∙ h)
 
-      pub value_located : (v : ℕ) (r : Located) → f ≡ Is v → r ≡ located_in t v → r ≡ located_of b q t
+      pub value_located : (v : ℕ) (r : Located) → f ≡ Some v → r ≡ located_in t v → r ≡ located_of b q t
       unfolding located_of entries_refusal first_refusal refuse_if
-      value_located v r h e = rw (sym refusal_same ∙ fine, sym form ∙ right, asked ∙ ap found h) e
+      value_located v r h e = rw (sym refusal_same ∙ fine, sym form ∙ right, asked ∙ h) e
 
 -- a is where the part lies
 module _ (b q t : List ℕ) (a : Located) (known : a ≡ located_of b q t) where

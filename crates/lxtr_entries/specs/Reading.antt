@@ -1,14 +1,11 @@
 -- An entry table as the code reads it: version and length, values and offsets.
 -- Results of calls are variables: each law says which definition equals what one return computes.
-use Rattle.std.specs.Prelude.{ℕ, ◌+◌, ◌-◌, ◌/◌, ◌%◌, ◌^◌, ◌≤◌, ◌<◌, ◌≡◌, List, Bool, true, false, ◌||◌, not, length, leb, ltb, eqb}
+use Rattle.std.specs.Prelude.{ℕ, ◌+◌, ◌-◌, ◌/◌, ◌%◌, ◌^◌, ◌≤◌, ◌<◌, ◌≡◌, List, Bool, true, false, ◌||◌, not, length, leb, ltb, eqb, Some, None, Option}
 use Rattle.std.proofs.Common.{arith, sym, ◌∙◌}
 use Rattle.std.proofs.Math.Bool.{or-true}
 use borrow.Author.Tests.{lt-ltb, le-ltb, ne_eqb}
 use Rattle.lxtr_spec.specs.Ranges.{any_below}
 use Rattle.lxtr_spec.specs.Numbers.{byte_at}
-use Rattle.lxtr_spec.specs.Answers.{found}
-use Rattle.lxtr_spec.specs.declared.Found.{Found}
-use Rattle.lxtr_spec.specs.declared.Found.TheVariants.{Is, Nothing}
 use Rattle.lxtr_laws.specs.Scans.{NoneSoFar, scan_start, scan_next, scan_hit, scan_end}
 use Rattle.lxtr_entries_laws.specs.TableFacts.{form_right}
 use Rattle.lxtr_entries_spec.specs.EntryTables.{entry_size, table_version, value_count, table_offset, entries_at, entry_count, form_wrong, falls, value_beyond, offsets_wrong}
@@ -52,12 +49,12 @@ module _ (t : List ℕ) where
   last_read v i l count same e = rw (← count, ← same.0) e
 
   -- whether a value is below V; n is V
-  module _ (f : Found) where
-    pub beyond_value : (v n : ℕ) → f ≡ Is v → n ≡ value_count t → leb n v ≡ value_beyond t (found f)
+  module _ (f : Option ℕ) where
+    pub beyond_value : (v n : ℕ) → f ≡ Some v → n ≡ value_count t → leb n v ≡ value_beyond t f
     unfolding value_beyond
     beyond_value v n h e = rw (h, e)
 
-    pub beyond_none : f ≡ Nothing → false ≡ value_beyond t (found f)
+    pub beyond_none : f ≡ None → false ≡ value_beyond t f
     unfolding value_beyond
     beyond_none h = rw h
 

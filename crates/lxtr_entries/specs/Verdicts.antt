@@ -4,20 +4,20 @@ use Rattle.std.specs.Prelude.{ℕ, ◌≡◌, ◌≢◌, List, false}
 use Rattle.std.proofs.Common.{sym, ◌∙◌}
 use Rattle.lxtr_spec.specs.Refusals.{first_refusal, unless_refused}
 use Rattle.lxtr_spec.specs.HighestValues.{highest_of}
-use Rattle.lxtr_spec.specs.Answers.{found, highest_means}
+use Rattle.lxtr_spec.specs.Answers.{highest_means}
 use Rattle.lxtr_spec.specs.declared.Highest.{Highest}
 use Rattle.lxtr_laws.specs.RefusalChains.{first_stands, stands}
 use Rattle.lxtr_entries_spec.specs.EntryTables.{value_count, table_offset, entry_count, form_wrong, value_beyond, offsets_wrong, table_refusal, table_verdict_of}
-use Rattle.lxtr_entries_spec.specs.declared.TableVerdict.{TableVerdict}
+use Rattle.lxtr_entries_spec.specs.EntryTables.{TableVerdict}
 use Rattle.lxtr_entries_laws.specs.TableFacts.{offsets_right, later_refusal, none_later, table_passes}
 
 -- h is what `highest` answered
 module _ (b t : List ℕ) (h : Highest) (known : highest_means h ≡ highest_of b) where
   pub image_refused : h.refusal ≢ 0 → h.refusal ≡ table_refusal b t
   unfolding table_refusal
-  image_refused r = rw (← known) (sym (first_stands h.refusal (later_refusal t (found h.value)) r))
+  image_refused r = rw (← known) (sym (first_stands h.refusal (later_refusal t h.value) r))
 
-  pub later_told : (k : ℕ) → h.refusal ≡ 0 → k ≡ later_refusal t (found h.value) → k ≡ table_refusal b t
+  pub later_told : (k : ℕ) → h.refusal ≡ 0 → k ≡ later_refusal t h.value → k ≡ table_refusal b t
   unfolding table_refusal first_refusal
   later_told k fine e = rw (← known, fine) e
 

@@ -5,7 +5,6 @@
 mod tables; // reads an entry table
 
 ghost use Rattle.std.specs.Prelude.{◌≡◌, false, cond, ◌+◌, ◌*◌, ◌≤◌, length, eqb};
-ghost use Rattle.lxtr_spec.specs.Answers.{found};
 ghost use Rattle.lxtr_entries_spec.specs.EntryTables.{entry_size, entries_at, entry_bytes, form_wrong, table_refusal, table_verdict_of};
 ghost use Rattle.lxtr_entries_spec.specs.EntryLookups.{nowhere, located_of, entries_of};
 ghost use Rattle.lxtr_entries_laws.specs.TableFacts.{later_refusal};
@@ -19,11 +18,10 @@ use lxtr_entries_spec::{ENTRY_BYTES, Located, TABLE_MALFORMED, TableVerdict, VAL
 use lxtr_highest::highest;
 use lxtr_search::cases::found_value;
 use lxtr_search::lookup;
-use lxtr_spec::Found;
 
 // The first of refusals 26 and 27 that holds, or 0, for an image with this highest value.
-fn later_refusal(table: &[u8], highest: Found) -> u8
-    ensures { result ≡ later_refusal table.now (found highest) }
+fn later_refusal(table: &[u8], highest: Option<u32>) -> u8
+    ensures { result ≡ later_refusal table.now highest }
 {
     if form_wrong(table) {
         return TABLE_MALFORMED;
@@ -123,7 +121,7 @@ pub fn locate(image: &[u8], query: &[u8], table: &[u8]) -> Located
     if form_wrong(table) {
         return refused(TABLE_MALFORMED);
     }
-    let Found::Is(v) = found_value(answer) else {
+    let Some(v) = found_value(answer) else {
         return Located {
             refusal: 0,
             valued: false,

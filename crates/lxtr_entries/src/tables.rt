@@ -1,14 +1,12 @@
 // Reads an entry table: version byte 1, V in four bytes, V + 1 offsets of four, then entries of eight bytes, big-endian.
 ghost use Rattle.std.specs.Prelude.{◌≡◌, false, ◌+◌, ◌*◌, ◌≤◌, ◌<◌, ◌^◌, length};
 ghost use Rattle.lxtr_spec.specs.Ranges.{any_below};
-ghost use Rattle.lxtr_spec.specs.Answers.{found};
 ghost use Rattle.lxtr_entries_spec.specs.EntryTables.{value_count, table_offset, entries_at, entry_count, form_wrong, falls, offsets_wrong, value_beyond};
 ghost use Rattle.lxtr_entries_laws.specs.TableFacts.{offsets_refusal};
 
 use lxtr_bytes::heads::{HEAD_LENGTH, VERSION, count_at, version_at};
 use lxtr_bytes::numbers::{be32_at, index};
 use lxtr_entries_spec::{ENTRY_BYTES, OFFSET_BYTES, TABLE_MALFORMED, VALUE_BEYOND};
-use lxtr_spec::Found;
 
 // V, the number of values that have a list of entries.
 pub fn value_count(table: &[u8]) -> u32
@@ -61,13 +59,13 @@ pub fn offset_at(table: &[u8], i: usize) -> u32
 }
 
 // Whether a value, if there is one, is not below V.
-fn value_beyond(table: &[u8], value: Found) -> bool
+fn value_beyond(table: &[u8], value: Option<u32>) -> bool
     requires { form_wrong table.now ≡ false }
-    ensures { result ≡ value_beyond table.now (found value) }
+    ensures { result ≡ value_beyond table.now value }
 {
     match value {
-        Found::Is(v) => value_count(table) <= v,
-        Found::Nothing => false,
+        Some(v) => value_count(table) <= v,
+        None => false,
     }
 }
 
@@ -109,9 +107,9 @@ fn offsets_wrong(table: &[u8]) -> bool
 }
 
 // The first of refusals 26 and 27 that holds, or 0, for an image with this highest value, if version and length are right.
-pub fn offsets_refusal(table: &[u8], highest: Found) -> u8
+pub fn offsets_refusal(table: &[u8], highest: Option<u32>) -> u8
     requires { form_wrong table.now ≡ false }
-    ensures { result ≡ offsets_refusal table.now (found highest) }
+    ensures { result ≡ offsets_refusal table.now highest }
 {
     if offsets_wrong(table) {
         return TABLE_MALFORMED;

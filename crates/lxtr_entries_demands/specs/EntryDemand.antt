@@ -2,9 +2,8 @@
 -- and of the lists of entries of which the table is the form.
 -- Only the program that the statements are about, and the statements; that the definitions meet them is `entry_demand` in
 -- Laws/EntryDemand.antt.
-use Rattle.std.specs.Prelude.{ℕ, ◌+◌, ◌%◌, ◌≤◌, ◌<◌, ◌^◌, ◌≡◌, ◌≢◌, ◌↔◌, ◌⊎◌, true, false, length}
+use Rattle.std.specs.Prelude.{ℕ, ◌+◌, ◌%◌, ◌≤◌, ◌<◌, ◌^◌, ◌≡◌, ◌≢◌, ◌↔◌, ◌⊎◌, true, false, length, None}
 use mathlib.Core.List.{List, [], ◌∷◌, ◌++◌, Memᴰ, flatten}
-use Rattle.std.proofs.Math.Option.{none}
 use Rattle.lxtr_spec.specs.Numbers.{be_bytes, be_words}
 use Rattle.lxtr_spec.specs.Labels.{labels_of}
 use Rattle.lxtr_spec.specs.Refusals.{image_refusal}
@@ -12,8 +11,8 @@ use Rattle.lxtr_spec.specs.Sets.{PairSet, Has, ImageOf}
 use Rattle.lxtr_demands.specs.Operations.{Bytes}
 use Rattle.lxtr_entries_spec.specs.EntryTables.{entry_size, entry_bytes, table_verdict_of}
 use Rattle.lxtr_entries_spec.specs.EntryLookups.{EntriesAnswer, entries_of, located_of}
-use Rattle.lxtr_entries_spec.specs.declared.TableVerdict.{TableVerdict}
-use Rattle.lxtr_entries_spec.specs.declared.Located.{Located}
+use Rattle.lxtr_entries_spec.specs.EntryTables.{TableVerdict}
+use Rattle.lxtr_entries_spec.specs.EntryLookups.{Located}
 
 -- A program: the check takes image and table; the two lookups take image, query and table. `defined` consists of the definitions, with
 -- which the contracts equate what the code answers.
@@ -73,16 +72,16 @@ Malformed t = (lists : EntryLists) → TableOf t lists → ⊥
 pub record EntriesAnswered (o : EntryProgram) (b : List ℕ) (d : PairSet) (t : List ℕ) (lists : EntryLists) (q xs : List ℕ) : Type 0 where
   -- exactly the entries of the query's value, as they lie in the table
   pub entries : (v n : ℕ) (es : List Entry) → Has d xs v → ListAt lists v n es → o.entries b q t ≡ record { refusal = 0; part = flatten es }
-  pub no_key : d xs ≡ none → o.entries b q t ≡ record { refusal = 0; part = [] }
+  pub no_key : d xs ≡ None → o.entries b q t ≡ record { refusal = 0; part = [] }
   -- 27: its value has no list
   pub beyond : (v : ℕ) → Has d xs v → length lists ≤ v → o.entries b q t ≡ record { refusal = 27; part = [] }
   -- an empty part exactly when the query is no key or its list is empty (or it is refused)
-  pub empty : (o.entries b q t).refusal ≡ 0 → ((o.entries b q t).part ≡ []) ↔ ((d xs ≡ none) ⊎ ((v : ℕ) × (n : ℕ) × Has d xs v × ListAt lists v n []))
+  pub empty : (o.entries b q t).refusal ≡ 0 → ((o.entries b q t).part ≡ []) ↔ ((d xs ≡ None) ⊎ ((v : ℕ) × (n : ℕ) × Has d xs v × ListAt lists v n []))
   -- where they lie: how many come before them, 0 if there are none, and how many they are
   pub located : (v n : ℕ) (e : Entry) (es : List Entry) → Has d xs v → ListAt lists v n (e ∷ es)
       → o.locate b q t ≡ record { refusal = 0; valued = true; first = n; count = length (e ∷ es) }
   pub located_none : (v n : ℕ) → Has d xs v → ListAt lists v n [] → o.locate b q t ≡ record { refusal = 0; valued = true; first = 0; count = 0 }
-  pub not_located : d xs ≡ none → o.locate b q t ≡ record { refusal = 0; valued = false; first = 0; count = 0 }
+  pub not_located : d xs ≡ None → o.locate b q t ≡ record { refusal = 0; valued = false; first = 0; count = 0 }
   pub located_beyond : (v : ℕ) → Has d xs v → length lists ≤ v → o.locate b q t ≡ record { refusal = 27; valued = false; first = 0; count = 0 }
 
 pub record EntryDemand (o : EntryProgram) : Type 0 where

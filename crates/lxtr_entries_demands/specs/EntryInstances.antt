@@ -1,13 +1,12 @@
 -- What the demand rules out, for every possible program. Here o is any program that meets the demand, whatever else it does: its check
 -- answers what the definition answers, for every image and every table of bytes, and so do its lookups, over an image and the table of
 -- some lists. So the programs named below fail.
-use Rattle.std.specs.Prelude.{ℕ, ◌%◌, ◌<◌, ◌^◌, ◌≡◌, ◌≢◌, Bool, false, leb}
+use Rattle.std.specs.Prelude.{ℕ, ◌%◌, ◌<◌, ◌^◌, ◌≡◌, ◌≢◌, Bool, false, leb, Option, Some, None}
 use Rattle.std.proofs.Common.{arith, ◌∙◌, leb-false}
 use Rattle.std.proofs.Math.Decide.{ℕ_discrete, dec_lt}
 use Rattle.std.proofs.Math.Path.{refl, sym, ap}
 use Rattle.std.proofs.Math.Logic.{⊎_elim}
 use mathlib.Core.List.{List, [], ◌∷◌, ◌++◌}
-use Rattle.std.proofs.Math.Option.{Option, some, none}
 use Rattle.std.proofs.Math.ListN.{length, get_or}
 use Rattle.lxtr_spec.specs.Ranges.{any_below}
 use Rattle.lxtr_spec.specs.Numbers.{byte_at, be_words}
@@ -20,8 +19,8 @@ use Rattle.lxtr_demands.specs.Operations.{Bytes}
 use Rattle.lxtr_demands.specs.Laws.Demand3.{demand3}
 use Rattle.lxtr_entries_spec.specs.EntryTables.{entry_size, table_verdict_of}
 use Rattle.lxtr_entries_spec.specs.EntryLookups.{EntriesAnswer, entries_of, located_of}
-use Rattle.lxtr_entries_spec.specs.declared.TableVerdict.{TableVerdict}
-use Rattle.lxtr_entries_spec.specs.declared.Located.{Located}
+use Rattle.lxtr_entries_spec.specs.EntryTables.{TableVerdict}
+use Rattle.lxtr_entries_spec.specs.EntryLookups.{Located}
 use Rattle.lxtr_entries_demands.specs.EntryDemand.{EntryProgram, defined, Entry, EntryLists, TableOf, ListAt, EntriesAnswered, EntryDemand}
 use Rattle.lxtr_entries_demands.specs.Laws.EntryDemand.{entry_demand}
 use Rattle.lxtr_entries_demands.specs.EntryRows.{entries_computing}
@@ -108,8 +107,8 @@ module _ (o : EntryProgram) (meets : EntryDemand o) where
         by_place v has (no h) = given.beyond v has (omega arith) ∙ sym (expected.beyond v has (omega arith))
 
         by_value : (a : Option ℕ) → d (labels_of q) ≡ a → o.entries b q t ≡ entries_of b q t
-        by_value none e = given.no_key e ∙ sym (expected.no_key e)
-        by_value (some v) e = by_place v e (dec_lt v (length lists))
+        by_value None e = given.no_key e ∙ sym (expected.no_key e)
+        by_value (Some v) e = by_place v e (dec_lt v (length lists))
 
     pub only_locate : o.locate b q t ≡ located_of b q t
     only_locate = by_value (d (labels_of q)) refl
@@ -123,11 +122,11 @@ module _ (o : EntryProgram) (meets : EntryDemand o) where
         by_place v has (no h) = given.located_beyond v has (omega arith) ∙ sym (expected.located_beyond v has (omega arith))
 
         by_value : (a : Option ℕ) → d (labels_of q) ≡ a → o.locate b q t ≡ located_of b q t
-        by_value none e = given.not_located e ∙ sym (expected.not_located e)
-        by_value (some v) e = by_place v e (dec_lt v (length lists))
+        by_value None e = given.not_located e ∙ sym (expected.not_located e)
+        by_value (Some v) e = by_place v e (dec_lt v (length lists))
 
     -- One that hands back a part although the query is no key fails.
-    pub part_without_key_fails : d (labels_of q) ≡ none → (o.entries b q t).part ≢ [] → ⊥
+    pub part_without_key_fails : d (labels_of q) ≡ None → (o.entries b q t).part ≢ [] → ⊥
     part_without_key_fails no_key more = more (ap (λ (a : EntriesAnswer). a.part) (given.no_key no_key))
 
   refusal_of : (t : List ℕ) → Bytes t → (o.check p3 t).refusal ≡ (table_verdict_of p3 t).refusal

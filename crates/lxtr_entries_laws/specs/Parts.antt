@@ -1,14 +1,13 @@
 -- The part that a lookup hands back is the one that is located, and it lies in the table: both go by the query's value, and a pair that
 -- is not refused does not pass the entries.
-use Rattle.std.specs.Prelude.{ℕ, zero, suc, ◌+◌, ◌*◌, ◌≤◌, ◌≡◌, refl, ◌≢◌, List, [], Bool, true, false, cond, length, eqb}
+use Rattle.std.specs.Prelude.{ℕ, zero, suc, ◌+◌, ◌*◌, ◌≤◌, ◌≡◌, refl, ◌≢◌, List, [], Bool, true, false, cond, length, eqb, Option, Some, None}
 use Rattle.std.proofs.Common.{arith, ap, eqb-true, ne_eqb}
-use Rattle.std.proofs.Math.Option.{Option, some, none}
 use Rattle.lxtr_spec.specs.Refusals.{refuse_if, unless_refused}
 use Rattle.lxtr_spec.specs.Searches.{search_refusal}
 use Rattle.lxtr_laws.specs.RefusalChains.{none_refused, none_first}
 use Rattle.lxtr_entries_spec.specs.EntryTables.{entry_size, table_offset, entries_at, entry_bytes, own_count, value_bytes, form_wrong, pair_wrong, value_beyond}
 use Rattle.lxtr_entries_spec.specs.EntryLookups.{query_value, pair_refusal, entries_refusal, part_for, EntriesAnswer, entries_of, located_by, nowhere, located_of}
-use Rattle.lxtr_entries_spec.specs.declared.Located.{Located}
+use Rattle.lxtr_entries_spec.specs.EntryLookups.{Located}
 use Rattle.lxtr_entries_laws.specs.TableFacts.{pair_right, entries_within}
 
 -- no entries have no bytes, wherever they begin
@@ -26,8 +25,8 @@ located_part t a = record { refusal = a.refusal; part = entry_bytes t a.first a.
 
 by_value : (t : List ℕ) (o : Option ℕ) → ◌≡◌ {A = EntriesAnswer} (record { refusal = 0; part = part_for t o }) (located_part t (located_by t o))
 unfolding part_for value_bytes located_by entry_bytes
-by_value t none = refl
-by_value t (some v) = ap {B = EntriesAnswer} (λ (p : List ℕ). record { refusal = 0; part = p }) (same_start t (table_offset t v) (own_count t v) (eqb (own_count t v) 0) refl)
+by_value t None = refl
+by_value t (Some v) = ap {B = EntriesAnswer} (λ (p : List ℕ). record { refusal = 0; part = p }) (same_start t (table_offset t v) (own_count t v) (eqb (own_count t v) 0) refl)
 
 by_refusal : (t : List ℕ) (o : Option ℕ) (k : ℕ) → ◌≡◌ {A = EntriesAnswer} (record { refusal = k; part = unless_refused k (part_for t o) [] }) (located_part t (unless_refused k (located_by t o) (nowhere k)))
 unfolding unless_refused nowhere entry_bytes
@@ -47,8 +46,8 @@ own_end t v h = omega arith
 pair_within : (t : List ℕ) (o : Option ℕ) → form_wrong t ≡ false → pair_refusal t o ≡ 0 → (located_by t o).count ≢ 0
     → entries_at t + entry_size * ((located_by t o).first + (located_by t o).count) ≤ length t
 unfolding pair_refusal located_by
-pair_within t none formed right more = absurd (more refl)
-pair_within t (some v) formed right more =
+pair_within t None formed right more = absurd (more refl)
+pair_within t (Some v) formed right more =
     let pair = (pair_right t v).0 ((none_refused (pair_wrong t v) 26 0 refl).0 right).0 in
     rw (ne_eqb (own_count t v) 0 more, own_end t v pair.0) (entries_within t formed (table_offset t (v + 1)) pair.1)
 

@@ -1,8 +1,7 @@
 -- What holds of a table whose form is right: version and length fit, so that every offset up to offset V lies in it, and the entries of
 -- a pair that is right do too. A table that the check accepts has such a form and such offsets.
-use Rattle.std.specs.Prelude.{ℕ, ◌+◌, ◌*◌, ◌-◌, ◌%◌, ◌≤◌, ◌≡◌, refl, ◌↔◌, List, false, length}
+use Rattle.std.specs.Prelude.{ℕ, ◌+◌, ◌*◌, ◌-◌, ◌%◌, ◌≤◌, ◌≡◌, refl, ◌↔◌, List, false, length, Option}
 use Rattle.std.proofs.Common.{arith}
-use Rattle.std.proofs.Math.Option.{Option}
 use Rattle.lxtr_spec.specs.Refusals.{refuse_if}
 use Rattle.lxtr_spec.specs.HighestValues.{highest_of}
 use Rattle.lxtr_laws.specs.RangeTests.{tests}

@@ -1,11 +1,10 @@
 -- Document 02, request 7: the table of goods entries, which holds a list of entries for each value number, and its check.
-use Rattle.std.specs.Prelude.{ℕ, ◌+◌, ◌*◌, ◌-◌, ◌/◌, ◌%◌, List, Bool, false, ◌||◌, not, length, take, drop, leb, ltb, eqb}
-use Rattle.std.proofs.Math.Option.{Option, some, none}
+use Rattle.std.specs.Prelude.{ℕ, ◌+◌, ◌*◌, ◌-◌, ◌/◌, ◌%◌, List, Bool, false, ◌||◌, not, length, take, drop, leb, ltb, eqb, Option, Some, None}
 use Rattle.lxtr_spec.specs.Ranges.{any_below}
 use Rattle.lxtr_spec.specs.Numbers.{byte_at, be32}
 use Rattle.lxtr_spec.specs.Refusals.{refuse_if, first_refusal, unless_refused}
 use Rattle.lxtr_spec.specs.HighestValues.{highest_of}
-use Rattle.lxtr_entries_spec.specs.declared.TableVerdict.{TableVerdict}
+use Rattle.lxtr_entries_spec.specs.EntryTables.{TableVerdict}
 
 -- A table in our form (version byte 1, V in four bytes, V+1 offsets of four, then entries of eight bytes, big-endian)
 unfoldable pub table_version : List ℕ → ℕ
@@ -56,8 +55,8 @@ pair_wrong t v = falls t v || ltb (entry_count t) (table_offset t (v + 1))
 
 -- 27 value not below V
 unfoldable pub value_beyond : List ℕ → Option ℕ → Bool
-value_beyond t none = false
-value_beyond t (some v) = leb (value_count t) v
+value_beyond t None = false
+value_beyond t (Some v) = leb (value_count t) v
 
 -- A checker first confirms that offsets start at 0, never fall and end at the entry count,
 unfoldable pub offsets_wrong : List ℕ → Bool

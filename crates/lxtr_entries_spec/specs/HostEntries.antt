@@ -4,7 +4,7 @@ use Rattle.lxtr_spec.specs.Refusals.{unless_refused}
 use Rattle.lxtr_spec.specs.HostNumbers.{host_number, at_front}
 use Rattle.lxtr_entries_spec.specs.EntryTables.{table_verdict_of}
 use Rattle.lxtr_entries_spec.specs.EntryLookups.{located_of}
-use Rattle.lxtr_entries_spec.specs.declared.Located.{Located}
+use Rattle.lxtr_entries_spec.specs.EntryLookups.{Located}
 
 -- The check: how many entries the table has.
 unfoldable pub table_number : List ℕ → List ℕ → ℕ

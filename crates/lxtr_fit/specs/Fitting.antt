@@ -1,10 +1,9 @@
 -- The search for a base, turn by turn: over the codes for one block of bases, over the blocks, and from which block on.
 -- The first base that passes in the map is the smallest that fits in the work.
-use Rattle.std.specs.Prelude.{ℕ, ◌+◌, ◌*◌, ◌-◌, ◌/◌, ◌^◌, ◌≤◌, ◌<◌, ◌≡◌, ◌≢◌, Bool, false, ◌&&◌, length}
+use Rattle.std.specs.Prelude.{ℕ, ◌+◌, ◌*◌, ◌-◌, ◌/◌, ◌^◌, ◌≤◌, ◌<◌, ◌≡◌, ◌≢◌, Bool, false, ◌&&◌, length, Option, Some, None}
 use Rattle.std.proofs.Math.Path.{refl, sym, ap, ap₂, subst}
 use Rattle.std.proofs.Common.{◌∙◌, arith, add-one, drop_of_length-le, drop-cons, lt-ltb}
 use mathlib.Core.List.{List, [], ◌∷◌}
-use Rattle.std.proofs.Math.Option.{Option, some, none}
 use Rattle.std.proofs.Math.Bool.{and-true, and_assoc}
 use Rattle.std.proofs.Math.Decide.{dec_lt}
 use Rattle.std.specs.Int.Bits.{bit_and, and_lt}
@@ -12,9 +11,6 @@ use Rattle.std.specs.Int.Count.{count_trailing_zeros}
 use Rattle.std.proofs.Math.ListN.{get_or, drop}
 use Rattle.lxtr_spec.specs.Labels.{max_slots}
 use Rattle.lxtr_spec.specs.Joining.{slot_under}
-use Rattle.lxtr_spec.specs.Answers.{found}
-use Rattle.lxtr_spec.specs.declared.Found.{Found}
-use Rattle.lxtr_spec.specs.declared.Found.TheVariants.{Is, Nothing}
 use Rattle.lxtr_spec.specs.Placing.{fits, first_fit, base_count}
 use Rattle.lxtr_laws.specs.BinaryDigits.{bit, bit_and_lem, bit_of_zero, bit_of_ones}
 use Rattle.lxtr_laws.specs.SlotMaps.{word_bits, slot_bit, BitsOf}
@@ -78,7 +74,7 @@ module _ (m cs : List ℕ) (k₀ : ℕ) where
 
   module _ (k : ℕ) (s : NoBaseSoFar m cs k₀ k) where
     module _ (x : ℕ) (word : BitsOf (all_under m cs) (word_bits * k) word_bits x) where
-      pub blocks_found : k < base_count / word_bits → x ≢ 0 → FirstOf (all_under m cs) (word_bits * k₀) base_count (some (word_bits * k + count_trailing_zeros word_bits x))
+      pub blocks_found : k < base_count / word_bits → x ≢ 0 → FirstOf (all_under m cs) (word_bits * k₀) base_count (Some (word_bits * k + count_trailing_zeros word_bits x))
       unfolding FirstOf
       blocks_found h p = word_hit (all_under m cs) (word_bits * k₀) (word_bits * k) word_bits x s.none word base_count (omega (arith, s.from)) (omega arith) (omega arith) p
 
@@ -87,7 +83,7 @@ module _ (m cs : List ℕ) (k₀ : ℕ) where
           let e : word_bits * k + word_bits ≡ word_bits * (k + 1) = omega arith in
           record { from = omega (arith, s.from); none = subst (NoneFrom (all_under m cs) (word_bits * k₀)) e (word_passed (all_under m cs) (word_bits * k₀) (word_bits * k) word_bits x s.none word z) }
 
-    pub blocks_none : base_count / word_bits ≤ k → FirstOf (all_under m cs) (word_bits * k₀) base_count none
+    pub blocks_none : base_count / word_bits ≤ k → FirstOf (all_under m cs) (word_bits * k₀) base_count None
     unfolding FirstOf
     blocks_none h = record { none = λ j i l. s.none.none j i (omega arith) }
 
@@ -103,9 +99,9 @@ module _ (S : ℕ) (w m : List ℕ) (l : ℕ) (map : FreeMap S w m l) where
   fit_is cs o f = one_answer (fits S w cs) 0 base_count o (first_fit S w cs) (first_same (all_under m cs) 0 base_count (fits S w cs) (under_fits cs) o f) (first_fit_first S w cs)
 
   -- no code: every base fits
-  pub fit_no_codes : (cs : List ℕ) → length cs ≡ 0 → some 0 ≡ first_fit S w cs
+  pub fit_no_codes : (cs : List ℕ) → length cs ≡ 0 → Some 0 ≡ first_fit S w cs
   unfolding all_under FirstOf
-  fit_no_codes [] e = fit_is [] (some 0) (record { from = omega arith; to = omega arith; here = refl; none_before = λ j h k. absurd (omega arith) })
+  fit_no_codes [] e = fit_is [] (Some 0) (record { from = omega arith; to = omega arith; here = refl; none_before = λ j h k. absurd (omega arith) })
   fit_no_codes (c ∷ cs) e = absurd (omega arith)
 
   -- a base does not fit if the slot of the first code is not free
@@ -115,12 +111,12 @@ module _ (S : ℕ) (w m : List ℕ) (l : ℕ) (map : FreeMap S w m l) where
   not_under (c ∷ cs) b n e = ap (λ (a : Bool). a && all_under m cs b) e
 
   -- no slot is free
-  pub fit_none_left : (cs : List ℕ) (r : Found) → length cs ≢ 0 → FirstOf (slot_bit m) l max_slots (found r) → r ≡ Nothing → none ≡ first_fit S w cs
+  pub fit_none_left : (cs : List ℕ) (r : Option ℕ) → length cs ≢ 0 → FirstOf (slot_bit m) l max_slots r → r ≡ None → None ≡ first_fit S w cs
   unfolding FirstOf
-  fit_none_left cs r n f e = fit_is cs none (record { none = λ b h k. not_under cs b n (none_free (slot_under b (get_or cs 0 0))) })
+  fit_none_left cs r n f e = fit_is cs None (record { none = λ b h k. not_under cs b n (none_free (slot_under b (get_or cs 0 0))) })
     where
       all : NoneFrom (slot_bit m) 0 max_slots
-      all = none_join (slot_bit m) 0 max_slots l map.none_below (subst (λ (x : Found). FirstOf (slot_bit m) l max_slots (found x)) e f)
+      all = none_join (slot_bit m) 0 max_slots l map.none_below (subst (λ (x : Option ℕ). FirstOf (slot_bit m) l max_slots x) e f)
 
       none_free : (t : ℕ) → slot_bit m t ≡ false
       none_free t = go (dec_lt t max_slots)
@@ -130,10 +126,10 @@ module _ (S : ℕ) (w m : List ℕ) (l : ℕ) (map : FreeMap S w m l) where
           go (no h) = bit_past m t (omega (arith, map.size))
 
   -- t is the first free slot
-  module _ (o : Found) (t : ℕ) (next : FirstOf (slot_bit m) l max_slots (found o)) (is : o ≡ Is t) where
+  module _ (o : Option ℕ) (t : ℕ) (next : FirstOf (slot_bit m) l max_slots o) (is : o ≡ Some t) where
     first_free : First (slot_bit m) l max_slots t
     unfolding FirstOf
-    first_free = subst (λ (x : Found). FirstOf (slot_bit m) l max_slots (found x)) is next
+    first_free = subst (λ (x : Option ℕ). FirstOf (slot_bit m) l max_slots x) is next
 
     none_before : NoneFrom (slot_bit m) 0 t
     none_before = none_join (slot_bit m) 0 t l map.none_below (record { none = first_free.none_before })

@@ -1,10 +1,9 @@
 -- The functions of the map of free slots, turn by turn.
-use Rattle.std.specs.Prelude.{ℕ, zero, suc, ◌+◌, ◌*◌, ◌-◌, ◌/◌, ◌%◌, ◌^◌, ◌≤◌, ◌<◌, min, ◌≡◌, refl, ◌≢◌, Bool, true, false, ◌&&◌}
+use Rattle.std.specs.Prelude.{ℕ, zero, suc, ◌+◌, ◌*◌, ◌-◌, ◌/◌, ◌%◌, ◌^◌, ◌≤◌, ◌<◌, min, ◌≡◌, refl, ◌≢◌, Bool, true, false, ◌&&◌, Some, None}
 use Rattle.std.proofs.Math.Path.{sym, ap, ap₂}
 use Rattle.std.proofs.Common.{◌∙◌, subst, one-mul, Fits, length-set, pow_pos, shl_exact, get_or-set_same, get_or-set_other}
 use mathlib.Core.List.{List}
 use Rattle.std.proofs.Math.Bool.{not, and-true}
-use Rattle.std.proofs.Math.Option.{some, none}
 use Rattle.std.proofs.Math.Decide.{dec_lt, ℕ_discrete}
 use native.Mathlib.Omega.{arith}
 use Rattle.std.specs.Int.Bits.{bit_and}
@@ -155,7 +154,7 @@ module _ (m : List ℕ) (i : ℕ) where
             shr_lt {n = get_or m (at / word_bits) 0} (word_bits - at % word_bits) (at % word_bits) (subst (λ (k : ℕ). get_or m (at / word_bits) 0 < 2 ^ k) (sym e) small);
       }
 
-      pub search_found : x ≢ 0 → FirstOf (slot_bit m) i max_slots (some (at + count_trailing_zeros word_bits x))
+      pub search_found : x ≢ 0 → FirstOf (slot_bit m) i max_slots (Some (at + count_trailing_zeros word_bits x))
       unfolding FirstOf
       search_found p = word_hit (slot_bit m) i at (word_bits - at % word_bits) x s.none word max_slots s.from (omega arith) (omega arith) p
 
@@ -167,6 +166,6 @@ module _ (m : List ℕ) (i : ℕ) where
     pub search_less : at / word_bits < length m → max_slots - (at / word_bits * word_bits + word_bits) < max_slots - at
     search_less h = omega arith
 
-    pub search_none : length m ≤ at / word_bits → FirstOf (slot_bit m) i max_slots none
+    pub search_none : length m ≤ at / word_bits → FirstOf (slot_bit m) i max_slots None
     unfolding FirstOf
     search_none h = record { none = λ j k l. s.none.none j k (omega arith) }

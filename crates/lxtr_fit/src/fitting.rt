@@ -1,7 +1,6 @@
 // First fit: the smallest base under which the slots of some codes are free. Only `first_fit` and its parts search for a base. They
 // look at a block of WORD_BITS bases at a time, in the map of free slots.
 ghost use Rattle.std.specs.Prelude.{◌≡◌, ◌*◌, ◌-◌, ◌≤◌};
-ghost use Rattle.lxtr_spec.specs.Answers.{found};
 ghost use Rattle.lxtr_spec.specs.Placing.{first_fit, base_count};
 ghost use Rattle.lxtr_laws.specs.SlotMaps.{word_bits, BitsOf};
 ghost use Rattle.lxtr_laws.specs.Firsts.{FirstOf};
@@ -9,7 +8,7 @@ ghost use Rattle.lxtr_fit.specs.FreeMaps.{FreeMap, all_under};
 
 use crate::free_map::next_free;
 use lxtr_image::joined_words::{ALL_BITS, WORD_BITS, word_under};
-use lxtr_spec::{BASE_COUNT, Found};
+use lxtr_spec::{BASE_COUNT};
 
 // The number of blocks of bases.
 const BLOCK_COUNT: u32 = BASE_COUNT as u32 / WORD_BITS;
@@ -32,17 +31,17 @@ fn bases_in(free: &[u64], block: u32, codes: &[u32]) -> u64
 
 // The smallest base from block `first` on under which the slots of all codes are free, or nothing if there is none.
 fn fit_from(free: &[u64], first: u32, codes: &[u32]) -> Found
-    ensures { FirstOf (all_under free.now codes.now) (word_bits * first) base_count (found result) }
+    ensures { FirstOf (all_under free.now codes.now) (word_bits * first) base_count result }
 {
     let mut block = first;
     while block < BLOCK_COUNT {
         let bases = bases_in(free, block, codes);
         if bases != 0 {
-            return Found::Is(WORD_BITS * block + u64::trailing_zeros(bases));
+            return Some(WORD_BITS * block + u64::trailing_zeros(bases));
         }
         block += 1;
     }
-    Found::Nothing
+    None
 }
 
 // A block such that under all bases of lower blocks the code's slot is below t. (No base and code reach a slot above their sum.)
@@ -60,15 +59,15 @@ fn first_block(t: u32, code: u32) -> u32
 // below that slot under every base, are left out. Only the contract reads `work` and `slots`.
 pub fn first_fit(work: &[u32], slots: usize, free: &[u64], lowest: &mut u32, codes: &[u32]) -> Found
     requires { FreeMap slots work.now free.now lowest.old }
-    ensures result_value { found result ≡ first_fit slots work.now codes.now }
+    ensures result_value { result ≡ first_fit slots work.now codes.now }
     ensures free_map { FreeMap slots work.now free.now lowest.new }
 {
     if codes.len() == 0 {
-        return Found::Is(0);
+        return Some(0);
     }
     let next = next_free(free, *lowest);
-    let Found::Is(t) = next else {
-        return Found::Nothing;
+    let Some(t) = next else {
+        return None;
     };
     *lowest = t;
     fit_from(free, first_block(t, codes[0]), codes)

@@ -1,7 +1,6 @@
 // The map of free slots, kept beside the lent work: one bit for each slot, which is set while the slot is free.
 ghost use Rattle.std.specs.Prelude.{◌≡◌, ◌*◌, ◌-◌, ◌/◌, ◌^◌, ◌≤◌, ◌<◌, min, length};
 ghost use Rattle.lxtr_spec.specs.Labels.{max_slots};
-ghost use Rattle.lxtr_spec.specs.Answers.{found};
 ghost use Rattle.lxtr_laws.specs.SlotMaps.{word_bits, slot_bit};
 ghost use Rattle.lxtr_laws.specs.Firsts.{FirstOf};
 ghost use Rattle.lxtr_build_laws.specs.Work.{Cleared};
@@ -10,7 +9,7 @@ ghost use Rattle.lxtr_fit.specs.FreeMaps.{map_words, FreeMap, taken_in, taken_by
 
 use lxtr_image::joined_words::{ALL_BITS, WORD_BITS};
 use lxtr_image::joining::slot_under;
-use lxtr_spec::{Found, MAX_SLOTS};
+use lxtr_spec::{MAX_SLOTS};
 
 // The number of words in the map.
 pub const MAP_WORDS: usize = MAX_SLOTS / WORD_BITS as usize;
@@ -70,15 +69,15 @@ pub fn mark_free(work: &[u32], slots: usize, free: &mut [u64])
 // The first free slot from `from` on; nothing only if none is left from there.
 pub fn next_free(free: &[u64], from: u32) -> Found
     requires { length free.now ≡ map_words }
-    ensures { FirstOf (slot_bit free.now) from max_slots (found result) }
+    ensures { FirstOf (slot_bit free.now) from max_slots result }
 {
     let mut at = from;
     while ((at / WORD_BITS) as usize) < free.len() {
         let word = free[(at / WORD_BITS) as usize] >> (at % WORD_BITS);
         if word != 0 {
-            return Found::Is(at + u64::trailing_zeros(word));
+            return Some(at + u64::trailing_zeros(word));
         }
         at = at / WORD_BITS * WORD_BITS + WORD_BITS;
     }
-    Found::Nothing
+    None
 }

@@ -6,13 +6,13 @@ ghost use Rattle.std.specs.Prelude.{◌≡◌, cond, ltb, ◌+◌, ◌<◌};
 ghost use Rattle.lxtr_spec.specs.Image.{slot_count, value_number};
 ghost use Rattle.lxtr_spec.specs.Refusals.{is_end};
 ghost use Rattle.lxtr_spec.specs.HighestValues.{highest_below, highest_of};
-ghost use Rattle.lxtr_spec.specs.Answers.{found, highest_means};
+ghost use Rattle.lxtr_spec.specs.Answers.{highest_means};
 ghost use Rattle.lxtr_laws.specs.Passed.{Whole};
 
 use lxtr_check::{image_refusal, is_end};
 use lxtr_image::nodes::value_number;
 use lxtr_image::sections::slot_count;
-use lxtr_spec::{Found, Highest};
+use lxtr_spec::{Highest};
 
 // One more than the value of slot s if it is an end, otherwise 0.
 fn end_bound(image: &[u8], s: u32) -> u32
@@ -36,7 +36,7 @@ fn larger(m: u32, n: u32) -> u32
 // The highest value of the ends, or none. The loop needs no case for none: `bound` is one more than the highest value so far, or 0.
 fn highest_value(image: &[u8]) -> Found
     requires { Whole image.now }
-    ensures { found result ≡ highest_below image.now (slot_count image.now) }
+    ensures { result ≡ highest_below image.now (slot_count image.now) }
 {
     let slots = slot_count(image);
     let mut bound: u32 = 0;
@@ -46,9 +46,9 @@ fn highest_value(image: &[u8]) -> Found
         s += 1;
     }
     if bound == 0 {
-        return Found::Nothing;
+        return None;
     }
-    Found::Is(bound - 1)
+    Some(bound - 1)
 }
 
 // The highest value of an accepted image, or none if its set is empty. A refusal answers none.
@@ -59,7 +59,7 @@ pub fn highest(image: &[u8]) -> Highest
     if refusal != 0 {
         return Highest {
             refusal,
-            value: Found::Nothing,
+            value: None,
         };
     }
     Highest {

@@ -1,10 +1,7 @@
 -- The number of an answer as the code makes it: each mark adds what it stands for if it is set, and each case has its number.
-use Rattle.std.specs.Prelude.{ℕ, ◌+◌, ◌*◌, ◌≡◌, refl, Bool, true, false}
+use Rattle.std.specs.Prelude.{ℕ, ◌+◌, ◌*◌, ◌≡◌, refl, Bool, true, false, Some, None, Option}
 use mir.Val.{bool_byte}
 use Rattle.lxtr_spec.specs.HostNumbers.{host_number, value_numbered, fault_numbered, reason_numbered}
-use Rattle.lxtr_spec.specs.Answers.{found}
-use Rattle.lxtr_spec.specs.declared.Found.{Found}
-use Rattle.lxtr_spec.specs.declared.Found.TheVariants.{Is, Nothing}
 use Rattle.lxtr_spec.specs.declared.Fault.{Fault}
 use Rattle.lxtr_spec.specs.declared.Reason.{Reason}
 
@@ -16,12 +13,12 @@ number_added k n false true = refl
 number_added k n false false = refl
 
 -- the number for a value or for none
-module _ (k : ℕ) (more : Bool) (f : Found) (n : ℕ) where
-  pub value_number_lem : (v : ℕ) → f ≡ Is v → n ≡ host_number k more true v → n ≡ value_numbered k more (found f)
+module _ (k : ℕ) (more : Bool) (f : Option ℕ) (n : ℕ) where
+  pub value_number_lem : (v : ℕ) → f ≡ Some v → n ≡ host_number k more true v → n ≡ value_numbered k more f
   unfolding value_numbered
   value_number_lem v h e = rw h e
 
-  pub none_number : f ≡ Nothing → n ≡ host_number k more false 0 → n ≡ value_numbered k more (found f)
+  pub none_number : f ≡ None → n ≡ host_number k more false 0 → n ≡ value_numbered k more f
   unfolding value_numbered
   none_number h e = rw h e
 

@@ -1,10 +1,9 @@
 // The 64-bit number that an operation returns to a host program.
 ghost use Rattle.std.specs.Prelude.{◌≡◌};
 ghost use Rattle.lxtr_spec.specs.HostNumbers.{host_number, value_numbered, place_number, fault_numbered, reason_numbered};
-ghost use Rattle.lxtr_spec.specs.Answers.{found};
 
 use lxtr_spec::refusals::{UNREACHABLE, WRONG_LABELS, WRONG_LISTS, WRONG_SLOTS};
-use lxtr_spec::{Fault, Found, Reason};
+use lxtr_spec::{Fault, Reason};
 
 // The parts of a number: REFUSAL times the refusal, MORE and VALUE for the two marks, and KIND times the kind of a fault or the number
 // of a reason.
@@ -24,12 +23,12 @@ pub fn host_number(refusal: u8, more: bool, valued: bool, n: u32) -> u64
 }
 
 // The number of an answer with a value, or with none.
-pub fn value_numbered(refusal: u8, more: bool, value: Found) -> u64
-    ensures { result ≡ value_numbered refusal more (found value) }
+pub fn value_numbered(refusal: u8, more: bool, value: Option<u32>) -> u64
+    ensures { result ≡ value_numbered refusal more value }
 {
     match value {
-        Found::Is(v) => host_number(refusal, more, true, v),
-        Found::Nothing => host_number(refusal, more, false, 0),
+        Some(v) => host_number(refusal, more, true, v),
+        None => host_number(refusal, more, false, 0),
     }
 }
 

@@ -1,11 +1,10 @@
 -- A block of places of the code map, searched by one sum. A place that has the label adds 2^16 plus its place in the block, counted
 -- from 1. So the sum tells whether there is no match, one, or more; and for one, at which place.
 use Prim.Native.Nat.{ℕ, zero, suc, ◌+◌, ◌*◌, ◌-◌, ◌%◌, ◌^◌, ◌≤◌, ◌<◌}
-use Rattle.std.specs.Prelude.{◌≡◌, Bool, cond, List}
+use Rattle.std.specs.Prelude.{◌≡◌, Bool, cond, List, Option, Some}
 use Rattle.std.proofs.Math.Path.{refl}
 use Rattle.std.proofs.Common.{sym, ◌∙◌, zero-add, add-zero, add-one, Fits}
 use Rattle.std.proofs.Math.Bool.{true, false}
-use Rattle.std.proofs.Math.Option.{Option, some}
 use native.Mathlib.Omega.{arith}
 use Rattle.std.proofs.Math.Dec.{eqb}
 use Rattle.std.specs.Int.{w32}
@@ -42,7 +41,7 @@ module _ (b : List ℕ) (x i : ℕ) where
   sum_with k t e = rw e
 
   -- the search of one more place: its match, or the places after it
-  code_with : (k m : ℕ) → eqb (label_at b (i + k)) x ≡ true → code_from b x (suc m) (i + k) ≡ some (i + k + 1)
+  code_with : (k m : ℕ) → eqb (label_at b (i + k)) x ≡ true → code_from b x (suc m) (i + k) ≡ Some (i + k + 1)
   unfolding code_from
   code_with k m e = rw (code_from, e)
 
@@ -84,12 +83,12 @@ module _ (b : List ℕ) (x i : ℕ) where
           rw (n, j) (ih (omega arith) ∙ code_without k m e)
 
   -- one match: the sum gives its place
-  block_one : (k m : ℕ) → k ≤ block_size → block_sum b x i k < 2 * one_match → (block_sum b x i k ≡ 0 → ⊥) → code_from b x (k + m) i ≡ some (i + block_sum b x i k % one_match)
+  block_one : (k m : ℕ) → k ≤ block_size → block_sum b x i k < 2 * one_match → (block_sum b x i k ≡ 0 → ⊥) → code_from b x (k + m) i ≡ Some (i + block_sum b x i k % one_match)
   unfolding block_sum weight
   block_one zero m l h d = absurd (d refl)
   block_one (suc k) m l h d = go (eqb (label_at b (i + k)) x) refl (block_one k (suc m) (omega arith))
     where
-      go : (t : Bool) → eqb (label_at b (i + k)) x ≡ t → (block_sum b x i k < 2 * one_match → (block_sum b x i k ≡ 0 → ⊥) → code_from b x (k + suc m) i ≡ some (i + block_sum b x i k % one_match)) → code_from b x (suc k + m) i ≡ some (i + block_sum b x i (suc k) % one_match)
+      go : (t : Bool) → eqb (label_at b (i + k)) x ≡ t → (block_sum b x i k < 2 * one_match → (block_sum b x i k ≡ 0 → ⊥) → code_from b x (k + suc m) i ≡ Some (i + block_sum b x i k % one_match)) → code_from b x (suc k + m) i ≡ Some (i + block_sum b x i (suc k) % one_match)
       go true e ih =
           let s = rw (sum_with k true e) at h in
           let z : block_sum b x i k ≡ 0 = sum_small k (omega arith) in
@@ -130,7 +129,7 @@ module _ (b : List ℕ) (x n i s : ℕ) (o : Option ℕ) (known : o ≡ code_fro
   split : n - i ≡ block_size + (n - (i + block_size))
   split = omega (arith, inside)
 
-  pub block_found : s < 2 * one_match → (s ≡ 0 → ⊥) → some (i + s % one_match) ≡ o
+  pub block_found : s < 2 * one_match → (s ≡ 0 → ⊥) → Some (i + s % one_match) ≡ o
   block_found h d =
       let one = block_one b x i block_size (n - (i + block_size)) (omega arith) (rw (← sum) h) (λ z. d (sum ∙ z)) in
       rw (known, split, one, sum)

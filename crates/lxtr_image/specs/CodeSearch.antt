@@ -1,7 +1,6 @@
 -- The search for a label's code as a loop: the code of the label is what the search of the n - i places from i up gives.
 -- Each turn tests whether place i has the label.
-use Rattle.std.specs.Prelude.{ℕ, ◌+◌, ◌*◌, ◌-◌, ◌≤◌, ◌<◌, ◌≡◌, Bool, true, false, List, eqb, length}
-use Rattle.std.proofs.Math.Option.{Option, some, none}
+use Rattle.std.specs.Prelude.{ℕ, ◌+◌, ◌*◌, ◌-◌, ◌≤◌, ◌<◌, ◌≡◌, Bool, true, false, List, eqb, length, Option, Some, None}
 use Rattle.std.proofs.Math.Nat.{sub-zero}
 use Rattle.std.proofs.Common.{arith}
 use Rattle.lxtr_spec.specs.Numbers.{be32}
@@ -37,7 +36,7 @@ module _ (b : List ℕ) (x n : ℕ) where
   code_all e = rw (sub-zero, e)
 
   module _ (i : ℕ) (o : Option ℕ) (known : o ≡ code_from b x (n - i) i) where
-    pub code_hit : (t : Bool) → i < n → t ≡ eqb (label_at b i) x → t ≡ true → some (i + 1) ≡ o
+    pub code_hit : (t : Bool) → i < n → t ≡ eqb (label_at b i) x → t ≡ true → Some (i + 1) ≡ o
     unfolding code_from
     code_hit t h e m = rw (known, more n i h, code_from, ← e, m)
 
@@ -49,6 +48,6 @@ module _ (b : List ℕ) (x n : ℕ) where
     pub code_rest : (r : Option ℕ) → n ≡ label_count b → r ≡ code_from b x (label_count b - i) i → r ≡ o
     code_rest r e h = rw (h, known, e)
 
-    pub code_end : n ≤ i → none ≡ o
+    pub code_end : n ≤ i → None ≡ o
     unfolding code_from
     code_end h = rw (known, no_more n i h)

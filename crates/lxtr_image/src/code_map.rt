@@ -1,14 +1,12 @@
 // The code map: the labels that it lists, and the code of a label.
 ghost use Rattle.std.specs.Prelude.{◌≡◌, ◌+◌, ◌*◌, ◌-◌, ◌<◌, ◌≤◌, eqb};
 ghost use Rattle.lxtr_spec.specs.Image.{map_length, map_at, map_version, label_count, label_at, code_from, code_of};
-ghost use Rattle.lxtr_spec.specs.Answers.{found};
 ghost use Rattle.lxtr_laws.specs.Passed.{Whole, Passed};
 ghost use Rattle.lxtr_image.specs.Blocks.{block_size, weight, block_sum};
 
 use crate::sections::{map_at, map_length};
 use lxtr_bytes::heads::{HEAD_LENGTH, count_at, version_at};
 use lxtr_bytes::numbers::{be32_at, be32_equals};
-use lxtr_spec::Found;
 
 // How many places of the map are compared at a time.
 const BLOCK_SIZE: u32 = 64;
@@ -96,25 +94,25 @@ fn block_sum(image: &[u8], label: u32, i: u32) -> u32
 fn code_from(image: &[u8], label: u32, from: u32) -> Found
     requires passed { Passed image.now }
     requires from_bound { from ≤ label_count image.now }
-    ensures { found result ≡ code_from image.now label (label_count image.now - from) from }
+    ensures { result ≡ code_from image.now label (label_count image.now - from) from }
 {
     let count = listed_count(image);
     let mut i = from;
     while i < count {
         let code = i + 1;
         if has_label(image, i, label) {
-            return Found::Is(code);
+            return Some(code);
         }
         i = code;
     }
-    Found::Nothing
+    None
 }
 
 // The code of a label: its first place, counted from 1. Whole blocks are searched by their sums. A block that has the label more
 // than once, and the places after the last whole block, are searched place by place.
 pub fn code_of(image: &[u8], label: u32) -> Found
     requires { Passed image.now }
-    ensures { found result ≡ code_of image.now label }
+    ensures { result ≡ code_of image.now label }
 {
     let count = listed_count(image);
     let mut i: u32 = 0;
@@ -124,7 +122,7 @@ pub fn code_of(image: &[u8], label: u32) -> Found
             break;
         }
         if sum != 0 {
-            return Found::Is(i + sum % MATCH);
+            return Some(i + sum % MATCH);
         }
         i += BLOCK_SIZE;
     }

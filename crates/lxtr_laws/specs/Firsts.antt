@@ -1,10 +1,9 @@
 -- The first number below a bound that passes a test, or the bound if none does: nothing before it passes.
 -- There is only one such number. The same for the first number from i on, if there is one.
 use Prim.Native.Nat.{ℕ, zero, suc, ◌+◌, ◌≤◌, ◌<◌}
-use Rattle.std.specs.Prelude.{◌≡◌, Bool, ltb}
+use Rattle.std.specs.Prelude.{◌≡◌, Bool, ltb, Option, Some, None}
 use Rattle.std.proofs.Math.Path.{refl, sym, ap}
 use Rattle.std.proofs.Common.{◌∙◌, true≢false, lt-ltb, le-ltb}
-use Rattle.std.proofs.Math.Option.{Option, some, none}
 use Rattle.std.proofs.Math.Bool.{true, false}
 use Rattle.std.proofs.Math.Nat.{le_refl}
 use Rattle.std.proofs.Math.Decide.{ℕ_discrete, dec_lt}
@@ -102,8 +101,8 @@ pub record NoneFrom (f : ℕ → Bool) (i n : ℕ) : Type 0 where
 
 -- an answer that gives the first, and none only if there is none
 unfoldable pub FirstOf : (ℕ → Bool) → ℕ → ℕ → Option ℕ → Type 0
-FirstOf f i n (some r) = First f i n r
-FirstOf f i n none = NoneFrom f i n
+FirstOf f i n (Some r) = First f i n r
+FirstOf f i n None = NoneFrom f i n
 
 module _ (f : ℕ → Bool) (i n : ℕ) where
   not_sooner : (r t : ℕ) → First f i n r → First f i n t → ¬ (r < t)
@@ -112,19 +111,19 @@ module _ (f : ℕ → Bool) (i n : ℕ) where
   -- there is only one such answer
   pub one_answer : (o q : Option ℕ) → FirstOf f i n o → FirstOf f i n q → o ≡ q
   unfolding FirstOf
-  one_answer (some r) (some t) a c =
+  one_answer (Some r) (Some t) a c =
       let not-less = not_sooner r t a c in
       let not_more = not_sooner t r c a in
       let same : r ≡ t = omega arith in
-      ap some same
-  one_answer (some r) none a c = absurd (true≢false (sym a.here ∙ c.none r a.from a.to))
-  one_answer none (some t) a c = absurd (true≢false (sym c.here ∙ a.none t c.from c.to))
-  one_answer none none a c = refl
+      ap Some same
+  one_answer (Some r) None a c = absurd (true≢false (sym a.here ∙ c.none r a.from a.to))
+  one_answer None (Some t) a c = absurd (true≢false (sym c.here ∙ a.none t c.from c.to))
+  one_answer None None a c = refl
 
   -- a test with the same outcomes has the same answer
   pub first_same : (g : ℕ → Bool) → ((j : ℕ) → f j ≡ g j) → (o : Option ℕ) → FirstOf f i n o → FirstOf g i n o
   unfolding FirstOf
-  first_same g e (some r) a = record { from = a.from; to = a.to; here = sym (e r) ∙ a.here; none_before = λ j h l. sym (e j) ∙ a.none_before j h l }
+  first_same g e (Some r) a = record { from = a.from; to = a.to; here = sym (e r) ∙ a.here; none_before = λ j h l. sym (e j) ∙ a.none_before j h l }
   first_same g e none a = record { none = λ j h l. sym (e j) ∙ a.none j h l }
 
   -- from k on, if none of the numbers before k passes
@@ -137,5 +136,5 @@ module _ (f : ℕ → Bool) (i n : ℕ) where
 
 pub first_lower : (f : ℕ → Bool) (i n k : ℕ) (o : Option ℕ) → i ≤ k → NoneFrom f i k → FirstOf f k n o → FirstOf f i n o
 unfolding FirstOf
-first_lower f i n k (some r) h a c = record { from = omega (arith, c.from); to = c.to; here = c.here; none_before = (none_join f i r k a (record { none = c.none_before })).none }
-first_lower f i n k none h a c = none_join f i n k a c
+first_lower f i n k (Some r) h a c = record { from = omega (arith, c.from); to = c.to; here = c.here; none_before = (none_join f i r k a (record { none = c.none_before })).none }
+first_lower f i n k None h a c = none_join f i n k a c

@@ -1,5 +1,5 @@
 -- The searches as the code makes them: first the refusals, then the definition's answer.
-use Rattle.std.specs.Prelude.{ℕ, ◌*◌, ◌%◌, ◌≡◌, refl, ◌↔◌, length, take}
+use Rattle.std.specs.Prelude.{ℕ, ◌*◌, ◌%◌, ◌≡◌, refl, ◌↔◌, length, take, Option}
 use Rattle.std.proofs.Math.Path.{sym}
 use Rattle.std.proofs.Common.{◌∙◌}
 use mathlib.Core.List.{List, []}
@@ -8,12 +8,10 @@ use Rattle.lxtr_spec.specs.Labels.{labels_of}
 use Rattle.lxtr_spec.specs.Refusals.{refuse_if, first_refusal, unless_refused, header_refusal}
 use Rattle.lxtr_spec.specs.Walks.{walk_within}
 use Rattle.lxtr_spec.specs.Searches.{query_refusal, search_refusal, case_at, case_within, lookup_of, prefix_matches, prefixes_answer, prefixes_of, LongestAnswer, last_length, longest_length, longest_of}
-use Rattle.lxtr_spec.specs.Answers.{found}
-use Rattle.lxtr_spec.specs.declared.Found.{Found}
 use Rattle.lxtr_spec.specs.declared.Case.{Case}
 use Rattle.lxtr_spec.specs.declared.Case.TheVariants.{Neither}
-use Rattle.lxtr_spec.specs.declared.Lookup.{Lookup}
-use Rattle.lxtr_spec.specs.declared.Prefixes.{Prefixes}
+use Rattle.lxtr_spec.specs.Searches.{Lookup}
+use Rattle.lxtr_spec.specs.Searches.{Prefixes}
 use Rattle.lxtr_laws.specs.RefusalChains.{none_refused, none_first, first_stands, stands}
 use Rattle.lxtr_laws.specs.RangeTests.{tests}
 use Rattle.lxtr_laws.specs.Passed.{Passed, header_passed}
@@ -58,7 +56,7 @@ module _ (b q : List ℕ) (r : ℕ) where
 
     -- and without one
     module _ (z : r ≡ 0) where
-      pub lookup_passed : (f : Found) (c : Case) → found f ≡ walk_within b (labels_of q) → c ≡ case_at b (found f) → ◌≡◌ {A = Lookup} (record { refusal = r; case = c }) (lookup_of b q)
+      pub lookup_passed : (f : Option ℕ) (c : Case) → f ≡ walk_within b (labels_of q) → c ≡ case_at b f → ◌≡◌ {A = Lookup} (record { refusal = r; case = c }) (lookup_of b q)
       unfolding lookup_of case_within unless_refused
       lookup_passed f c walked e = rw (z, sym known ∙ z, ← walked, e)
 

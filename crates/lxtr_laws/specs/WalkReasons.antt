@@ -1,10 +1,9 @@
 -- Why a query is found or not, as a loop finds it: once the first i labels reach slot n, the reason is that of the labels after them,
 -- from slot n.
-use Rattle.std.specs.Prelude.{ℕ, suc, ◌+◌, ◌≤◌, ◌<◌, ◌≡◌, get_or, take}
+use Rattle.std.specs.Prelude.{ℕ, suc, ◌+◌, ◌≤◌, ◌<◌, ◌≡◌, get_or, take, Option, Some, None}
 use Rattle.std.proofs.Common.{sym, ◌∙◌, lt-ltb, le-ltb}
 use Rattle.std.proofs.Math.Path.{ap}
 use mathlib.Core.List.{List, [], ◌∷◌, ◌++◌, append-nil}
-use Rattle.std.proofs.Math.Option.{Option, some, none}
 use Rattle.std.proofs.Math.Nat.{add-zero}
 use native.Mathlib.Omega.{arith}
 use Rattle.std.proofs.Math.ListN.{length, drop}
@@ -18,19 +17,19 @@ use Rattle.lxtr_laws.specs.StepFacts.{none_not_some, some_same}
 
 module _ (b : List ℕ) where
   -- after the labels p, which walk
-  reason_after : (p r : List ℕ) (i n t : ℕ) → walk b n p ≡ some t → reason_from b i n (p ++ r) ≡ reason_from b (i + length p) t r
+  reason_after : (p r : List ℕ) (i n t : ℕ) → walk b n p ≡ Some t → reason_from b i n (p ++ r) ≡ reason_from b (i + length p) t r
   unfolding walk reason_from
   reason_after [] r i n t e = rw (some_same e, add-zero i)
   reason_after (x ∷ p) r i n t e = go (λ u h. reason_after p r (i + 1) u t h) (step_by b n x) e
     where
-      go : ((u : ℕ) → walk b u p ≡ some t → reason_from b (i + 1) u (p ++ r) ≡ reason_from b (i + 1 + length p) t r) → (o : Option ℕ)
-          → elim o as (λ _. Option ℕ) [ none ↦ none | some u ↦ walk b u p ] ≡ some t
-          → elim o as (λ _. Reason) [ none ↦ stopped_at b i x | some u ↦ reason_from b (i + 1) u (p ++ r) ] ≡ reason_from b (i + length (x ∷ p)) t r
-      go ih none h = absurd (none_not_some h)
-      go ih (some u) h = let same : i + 1 + length p ≡ i + length (x ∷ p) = omega arith in ih u h ∙ ap (λ (k : ℕ). reason_from b k t r) same
+      go : ((u : ℕ) → walk b u p ≡ Some t → reason_from b (i + 1) u (p ++ r) ≡ reason_from b (i + 1 + length p) t r) → (o : Option ℕ)
+          → elim o as (λ _. Option ℕ) [ None ↦ None | Some u ↦ walk b u p ] ≡ Some t
+          → elim o as (λ _. Reason) [ None ↦ stopped_at b i x | Some u ↦ reason_from b (i + 1) u (p ++ r) ] ≡ reason_from b (i + length (x ∷ p)) t r
+      go ih None h = absurd (none_not_some h)
+      go ih (Some u) h = let same : i + 1 + length p ≡ i + length (x ∷ p) = omega arith in ih u h ∙ ap (λ (k : ℕ). reason_from b k t r) same
 
   -- the first i labels walk, and the next one stops the walk
-  pub reason_stops : (xs : List ℕ) (i n : ℕ) → i < length xs → walk b 1 (take i xs) ≡ some n → step_by b n (get_or xs i 0) ≡ none → reason_from b 0 1 xs ≡ stopped_at b i (get_or xs i 0)
+  pub reason_stops : (xs : List ℕ) (i n : ℕ) → i < length xs → walk b 1 (take i xs) ≡ Some n → step_by b n (get_or xs i 0) ≡ None → reason_from b 0 1 xs ≡ stopped_at b i (get_or xs i 0)
   unfolding reason_from
   reason_stops xs i n h reached e =
       let rest = drop (suc i) xs in
@@ -39,7 +38,7 @@ module _ (b : List ℕ) where
       ∙ ap (λ (k : ℕ). reason_from b k n (get_or xs i 0 ∷ rest)) place ∙ rw (e, reason_from)
 
   -- all labels walk
-  pub reason_ends : (xs : List ℕ) (n : ℕ) → walk b 1 xs ≡ some n → reason_from b 0 1 xs ≡ ended_with (value_at b n)
+  pub reason_ends : (xs : List ℕ) (n : ℕ) → walk b 1 xs ≡ Some n → reason_from b 0 1 xs ≡ ended_with (value_at b n)
   unfolding reason_from
   reason_ends xs n e = ap (reason_from b 0 1) (sym (append-nil xs)) ∙ reason_after xs [] 0 1 n e
 

@@ -16,7 +16,7 @@ use lxtr_messages::{
 use lxtr_output::print;
 use lxtr_search::cases::{found_value, has_longer};
 use lxtr_search::lookup;
-use lxtr_spec::{Found, LENGTH_COUNT, MAX_LABELS};
+use lxtr_spec::{LENGTH_COUNT, MAX_LABELS};
 use lxtr_text::LINE_ROOM;
 pub use reasons::why;
 
@@ -43,13 +43,13 @@ fn print_word(query: &[u8]) {
 }
 
 // Prints the value, or that there is none. Returns whether there is one.
-fn print_value(value: Found) -> bool {
+fn print_value(value: Option<u32>) -> bool {
     match value {
-        Found::Is(v) => {
+        Some(v) => {
             tell(VALUE, v, 0);
             true
         }
-        Found::Nothing => {
+        None => {
             say(NO_VALUE);
             false
         }
@@ -142,11 +142,11 @@ pub fn longest(image: &[u8], query: &[u8]) {
         return;
     }
     match found_value(lookup(image, part)) {
-        Found::Is(v) => {
+        Some(v) => {
             print_prefix(part, printed(part.len() / 4), v);
             say(FOUND);
         }
-        Found::Nothing => say(ABSENT),
+        None => say(ABSENT),
     }
 }
 

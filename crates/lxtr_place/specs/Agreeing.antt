@@ -1,9 +1,9 @@
 -- Placing looks up only the codes and labels of the group: two ways of looking them up that agree on these place the same.
+use Rattle.std.specs.Prelude.{Option, Some, None}
 use Prim.Native.Nat.{ℕ, zero, suc}
 use Rattle.std.proofs.Math.Path.{◌≡◌, refl, ap}
 use Rattle.std.proofs.Common.{sym, ◌∙◌, arith}
 use mathlib.Core.List.{List, [], ◌∷◌, Memᴰ}
-use Rattle.std.proofs.Math.Option.{Option, some, none}
 use Rattle.lxtr_spec.specs.Labels.{Pair}
 use Rattle.lxtr_spec.specs.Joining.{slot_under}
 use Rattle.lxtr_spec.specs.CodeMaps.{insert}
@@ -18,9 +18,9 @@ each_same f f' (zero ∷ cs) w h = each_same f f' cs w (λ c m. h c (Memᴰ.tail
 each_same f f' (suc c ∷ cs) w h = go (λ u. each_same f f' cs u (λ e m. h e (Memᴰ.tail m))) (f (suc c) w) (f' (suc c) w) (h c (Memᴰ.head refl) w)
   where
     go : ((u : List ℕ) → into_each f cs u ≡ into_each f' cs u) → (o o' : Option (List ℕ)) → o ≡ o'
-        → ◌≡◌ {A = Option (List ℕ)} (elim o as (λ _. Option (List ℕ)) [ none ↦ none | some u ↦ into_each f cs u ]) (elim o' as (λ _. Option (List ℕ)) [ none ↦ none | some u ↦ into_each f' cs u ])
-    go ih none o' e = ap (λ (x : Option (List ℕ)). elim x as (λ _. Option (List ℕ)) [ none ↦ none | some u ↦ into_each f' cs u ]) e
-    go ih (some u) o' e = ih u ∙ ap (λ (x : Option (List ℕ)). elim x as (λ _. Option (List ℕ)) [ none ↦ none | some v ↦ into_each f' cs v ]) e
+        → ◌≡◌ {A = Option (List ℕ)} (elim o as (λ _. Option (List ℕ)) [ None ↦ None | Some u ↦ into_each f cs u ]) (elim o' as (λ _. Option (List ℕ)) [ None ↦ None | Some u ↦ into_each f' cs u ])
+    go ih None o' e = ap (λ (x : Option (List ℕ)). elim x as (λ _. Option (List ℕ)) [ None ↦ None | Some u ↦ into_each f' cs u ]) e
+    go ih (Some u) o' e = ih u ∙ ap (λ (x : Option (List ℕ)). elim x as (λ _. Option (List ℕ)) [ None ↦ None | Some v ↦ into_each f' cs v ]) e
 
 module _ (S : ℕ) (code code' label label' : ℕ → ℕ) where
   -- the two ways agree on the labels of a group
@@ -61,12 +61,12 @@ module _ (S : ℕ) (code code' label label' : ℕ → ℕ) where
   place_same zero p g w a = refl
   place_same (suc k) p g w a =
       step (λ q y u. place_same k q (below y g) u (agree_below y g a)) (settle S p (end_value g) (child_codes code g []) w)
-      ∙ ap (λ (cs : List ℕ). elim (settle S p (end_value g) cs w) as (λ _. Option (List ℕ)) [ none ↦ none | some s ↦ into_each (λ c u. place S code' label' k (slot_under s.0 c) (below (label' c) g) u) cs s.1 ]) (codes_same g [] a.codes)
+      ∙ ap (λ (cs : List ℕ). elim (settle S p (end_value g) cs w) as (λ _. Option (List ℕ)) [ None ↦ None | Some s ↦ into_each (λ c u. place S code' label' k (slot_under s.0 c) (below (label' c) g) u) cs s.1 ]) (codes_same g [] a.codes)
     where
       step : ((q y : ℕ) (u : List ℕ) → place S code label k q (below y g) u ≡ place S code' label' k q (below y g) u) → (o : Option (ℕ × List ℕ))
           → ◌≡◌ {A = Option (List ℕ)}
-          (elim o as (λ _. Option (List ℕ)) [ none ↦ none | some s ↦ into_each (λ c u. place S code label k (slot_under s.0 c) (below (label c) g) u) (child_codes code g []) s.1 ])
-          (elim o as (λ _. Option (List ℕ)) [ none ↦ none | some s ↦ into_each (λ c u. place S code' label' k (slot_under s.0 c) (below (label' c) g) u) (child_codes code g []) s.1 ])
-      step ih none = refl
-      step ih (some s) = each_same (λ c u. place S code label k (slot_under s.0 c) (below (label c) g) u) (λ c u. place S code' label' k (slot_under s.0 c) (below (label' c) g) u) (child_codes code g []) s.1
+          (elim o as (λ _. Option (List ℕ)) [ None ↦ None | Some s ↦ into_each (λ c u. place S code label k (slot_under s.0 c) (below (label c) g) u) (child_codes code g []) s.1 ])
+          (elim o as (λ _. Option (List ℕ)) [ None ↦ None | Some s ↦ into_each (λ c u. place S code' label' k (slot_under s.0 c) (below (label' c) g) u) (child_codes code g []) s.1 ])
+      step ih None = refl
+      step ih (Some s) = each_same (λ c u. place S code label k (slot_under s.0 c) (below (label c) g) u) (λ c u. place S code' label' k (slot_under s.0 c) (below (label' c) g) u) (child_codes code g []) s.1
           (λ c m u. ap (λ (y : ℕ). place S code label k (slot_under s.0 (suc c)) (below y g) u) (label_same g a c m) ∙ ih (slot_under s.0 (suc c)) (label' (suc c)) u)

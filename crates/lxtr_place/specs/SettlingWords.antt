@@ -1,16 +1,12 @@
 -- The words that are stored when a slot is settled.
 use Prim.Native.Nat.{ℕ, zero, suc, ◌+◌, ◌*◌, ◌/◌, ◌^◌, ◌%◌, ◌≤◌, ◌<◌}
-use Rattle.std.specs.Prelude.{◌≡◌, ◌≢◌, get_or, length}
+use Rattle.std.specs.Prelude.{◌≡◌, ◌≢◌, get_or, length, Option, Some, None}
 use Rattle.std.proofs.Math.Path.{refl, sym, ap}
 use Rattle.std.proofs.Common.{◌∙◌, subst, arith}
 use mathlib.Core.List.{List, [], ◌∷◌}
-use Rattle.std.proofs.Math.Option.{Option, some, none}
 use Rattle.std.proofs.Math.ListN.{set}
 use Rattle.lxtr_spec.specs.Joining.{slot_under}
-use Rattle.lxtr_spec.specs.Answers.{found}
 use Rattle.lxtr_spec.specs.Placing.{check_at, first_fit, put_child, put_children, put_parent, settle}
-use Rattle.lxtr_spec.specs.declared.Found.{Found}
-use Rattle.lxtr_spec.specs.declared.Found.TheVariants.{Is, Nothing}
 use Rattle.lxtr_laws.specs.Members.{member_at}
 use Rattle.lxtr_laws.specs.SlotMaps.{word_bits}
 use Rattle.lxtr_build_laws.specs.SlotWords.{check_of_base}
@@ -22,9 +18,9 @@ use Rattle.lxtr_fit.specs.FreeMaps.{FreeMap, taken_by}
 use Rattle.lxtr_fit.specs.TakenSlots.{settled_map}
 
 -- the base that the code answers, and the work after that
-unfoldable pub settled_as : Found → List ℕ → Option (ℕ × List ℕ)
-settled_as (Is b) w = some (b, w)
-settled_as Nothing w = none
+unfoldable pub settled_as : Option ℕ → List ℕ → Option (ℕ × List ℕ)
+settled_as (Some b) w = Some (b, w)
+settled_as None w = None
 
 -- ---- a slot's own words
 
@@ -83,16 +79,16 @@ inside_after p b cs w u i e = subst (λ (n : ℕ). SlotsBelow (n / 2) b cs) (sym
 
 -- ---- settling
 
-module _ (S p v : ℕ) (cs w : List ℕ) (r : Found) (answer : found r ≡ first_fit S w cs) where
-  pub settle_none : r ≡ Nothing → (u : List ℕ) → settled_as Nothing u ≡ settle S p v cs w
+module _ (S p v : ℕ) (cs w : List ℕ) (r : Option ℕ) (answer : r ≡ first_fit S w cs) where
+  pub settle_none : r ≡ None → (u : List ℕ) → settled_as None u ≡ settle S p v cs w
   unfolding settled_as settle
   settle_none e u =
-      let z : first_fit S w cs ≡ none = sym answer ∙ ap found e in
-      sym (ap (λ (o : Option ℕ). elim o as (λ _. Option (ℕ × List ℕ)) [ none ↦ none | some b ↦ some (b, put_children p v b cs (put_parent p b cs w)) ]) z)
+      let z : first_fit S w cs ≡ None = sym answer ∙ e in
+      sym (ap (λ (o : Option ℕ). elim o as (λ _. Option (ℕ × List ℕ)) [ None ↦ None | Some b ↦ Some (b, put_children p v b cs (put_parent p b cs w)) ]) z)
 
-  module _ (b : ℕ) (is : r ≡ Is b) where
-    fit : first_fit S w cs ≡ some b
-    fit = sym answer ∙ ap found is
+  module _ (b : ℕ) (is : r ≡ Some b) where
+    fit : first_fit S w cs ≡ Some b
+    fit = sym answer ∙ is
 
     children_free : AllFree S w b cs
     children_free = fits_free S w cs b (first_fit_some S w cs b fit).0.fit
@@ -112,11 +108,11 @@ module _ (S p v : ℕ) (cs w : List ℕ) (r : Found) (answer : found r ≡ first
       pub settle_map : (u n : List ℕ) → u ≡ put_children p v b cs (put_parent p b cs w) → n ≡ each_step (taken_by b) cs m → FreeMap S u n l
       settle_map u n e q = rw (e, q) (settled_map S p v cs w m l b ready children_free map)
 
-    pub settle_base : (u : List ℕ) → u ≡ put_children p v b cs (put_parent p b cs w) → settled_as (Is b) u ≡ settle S p v cs w
+    pub settle_base : (u : List ℕ) → u ≡ put_children p v b cs (put_parent p b cs w) → settled_as (Some b) u ≡ settle S p v cs w
     unfolding settled_as settle
     settle_base u e =
-        ap (λ (y : List ℕ). some (b, y)) e
-        ∙ sym (ap (λ (o : Option ℕ). elim o as (λ _. Option (ℕ × List ℕ)) [ none ↦ none | some b ↦ some (b, put_children p v b cs (put_parent p b cs w)) ]) fit)
+        ap (λ (y : List ℕ). Some (b, y)) e
+        ∙ sym (ap (λ (o : Option ℕ). elim o as (λ _. Option (ℕ × List ℕ)) [ None ↦ None | Some b ↦ Some (b, put_children p v b cs (put_parent p b cs w)) ]) fit)
 
 -- with the codes and the value under other names
 pub settle_as : (S p v v' : ℕ) (cs cs' w : List ℕ) (o : Option (ℕ × List ℕ)) → v ≡ v' → cs ≡ cs' → o ≡ settle S p v cs w → o ≡ settle S p v' cs' w

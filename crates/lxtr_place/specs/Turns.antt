@@ -1,11 +1,10 @@
 -- The loop of `place` over the codes of a slot's children: its invariant, and its turns.
 use Prim.Native.Nat.{ℕ, zero, suc, ◌+◌, ◌-◌, ◌≤◌, ◌<◌}
-use Rattle.std.specs.Prelude.{◌≡◌, refl, ◌≢◌, Bool, true, false, not, get_or, length, take, drop}
+use Rattle.std.specs.Prelude.{◌≡◌, refl, ◌≢◌, Bool, true, false, not, get_or, length, take, drop, Option, Some, None}
 use Rattle.std.proofs.Math.Path.{sym, ap}
 use Rattle.std.proofs.Common.{ap₂, ◌∙◌, add-one, drop_of_length-le, length-take, length-drop, length-take-le, drop-cons, get_or-take}
 use Rattle.std.proofs.Math.Logic.{inl}
 use mathlib.Core.List.{List, [], ◌∷◌, ◌++◌, Memᴰ}
-use Rattle.std.proofs.Math.Option.{Option, some, none}
 use native.Mathlib.Omega.{arith}
 use Rattle.std.proofs.lemmas.Bool.{not-true, not-false}
 use Rattle.std.proofs.Math.Seq.{take_at}
@@ -13,8 +12,6 @@ use Rattle.lxtr_spec.specs.Labels.{Pair}
 use Rattle.lxtr_spec.specs.KeyLists.{max_keys}
 use Rattle.lxtr_spec.specs.Joining.{slot_under}
 use Rattle.lxtr_spec.specs.Placing.{child_codes, below, end_value, settle, into_each, place}
-use Rattle.lxtr_spec.specs.declared.Found.{Found}
-use Rattle.lxtr_spec.specs.declared.Found.TheVariants.{Is, Nothing}
 use Rattle.lxtr_laws.specs.Members.{member_at}
 use Rattle.lxtr_build_laws.specs.CodeTables.{Rising}
 use Rattle.lxtr_build_laws.specs.Work.{placed_as}
@@ -33,15 +30,15 @@ each_end : (f : ℕ → List ℕ → Option (List ℕ)) (c : ℕ) (cs w : List �
 unfolding into_each
 each_end f c cs w e = rw e refl
 
-each_some : (f : ℕ → List ℕ → Option (List ℕ)) (c : ℕ) (cs w u : List ℕ) → c ≢ 0 → f c w ≡ some u → into_each f (c ∷ cs) w ≡ into_each f cs u
+each_some : (f : ℕ → List ℕ → Option (List ℕ)) (c : ℕ) (cs w u : List ℕ) → c ≢ 0 → f c w ≡ Some u → into_each f (c ∷ cs) w ≡ into_each f cs u
 unfolding into_each
 each_some f zero cs w u l e = absurd (l refl)
-each_some f (suc c) cs w u l e = ap (λ (o : Option (List ℕ)). elim o as (λ _. Option (List ℕ)) [ none ↦ none | some v ↦ into_each f cs v ]) e
+each_some f (suc c) cs w u l e = ap (λ (o : Option (List ℕ)). elim o as (λ _. Option (List ℕ)) [ None ↦ None | Some v ↦ into_each f cs v ]) e
 
-each_none : (f : ℕ → List ℕ → Option (List ℕ)) (c : ℕ) (cs w : List ℕ) → c ≢ 0 → f c w ≡ none → into_each f (c ∷ cs) w ≡ none
+each_none : (f : ℕ → List ℕ → Option (List ℕ)) (c : ℕ) (cs w : List ℕ) → c ≢ 0 → f c w ≡ None → into_each f (c ∷ cs) w ≡ None
 unfolding into_each
 each_none f zero cs w l e = absurd (l refl)
-each_none f (suc c) cs w l e = ap (λ (o : Option (List ℕ)). elim o as (λ _. Option (List ℕ)) [ none ↦ none | some v ↦ into_each f cs v ]) e
+each_none f (suc c) cs w l e = ap (λ (o : Option (List ℕ)). elim o as (λ _. Option (List ℕ)) [ None ↦ None | Some v ↦ into_each f cs v ]) e
 
 -- ---- the loop
 
@@ -58,7 +55,7 @@ module _ (S : ℕ) (code label : ℕ → ℕ) (left : ℕ) (g : List Pair) where
     pub some_left : left ≢ 0
     pub fresh : Fresh S w p
     pub codes_in : CodesIn code n g
-    pub settled : settle S p (end_value g) cs w ≡ some (b, u)
+    pub settled : settle S p (end_value g) cs w ≡ Some (b, u)
 
   -- and placing has gone into the children by the first j codes: the work is x, and the codes are at the front of the room
   pub record Going (k b : ℕ) (u room₀ room : List ℕ) (j : ℕ) (x : List ℕ) : Type 0 where
@@ -80,23 +77,23 @@ module _ (S : ℕ) (code label : ℕ → ℕ) (left : ℕ) (g : List Pair) where
 
     -- what follows after settling p, depending on its answer
     abbrev then : Option (ℕ × List ℕ) → Option (List ℕ)
-    then o = elim o as (λ _. Option (List ℕ)) [ none ↦ none | some s ↦ into_each (into s.0) cs s.1 ]
+    then o = elim o as (λ _. Option (List ℕ)) [ None ↦ None | Some s ↦ into_each (into s.0) cs s.1 ]
 
     is_settled_as : (o : Option (ℕ × List ℕ)) → left ≢ 0 → settle S p (end_value g) cs w ≡ o → whole ≡ then o
     unfolding place
     is_settled_as o h e = let k : left ≡ suc (left - 1) = omega arith in ap (λ (k : ℕ). place S code label k p g w) k ∙ ap then e
 
-    module _ (r : Found) (u l : List ℕ) (are : l ≡ cs) (answer : settled_as r u ≡ settle S p (end_value g) l w) (some_left : left ≢ 0) where
+    module _ (r : Option ℕ) (u l : List ℕ) (are : l ≡ cs) (answer : settled_as r u ≡ settle S p (end_value g) l w) (some_left : left ≢ 0) where
       settled_is : (o : Option (ℕ × List ℕ)) → settled_as r u ≡ o → settle S p (end_value g) cs w ≡ o
       settled_is o e = ap (λ (k : List ℕ). settle S p (end_value g) k w) (sym are) ∙ sym answer ∙ e
 
-      pub none_fits : r ≡ Nothing → (v : List ℕ) → placed_as false v ≡ whole
+      pub none_fits : r ≡ None → (v : List ℕ) → placed_as false v ≡ whole
       unfolding placed_as settled_as
-      none_fits e v = sym (is_settled_as none some_left (settled_is none (ap (λ (y : Found). settled_as y u) e)))
+      none_fits e v = sym (is_settled_as None some_left (settled_is None (ap (λ (y : Option ℕ). settled_as y u) e)))
 
-      pub start : (n b : ℕ) → r ≡ Is b → Fresh S w p → CodesIn code n g → Started n p w b u
+      pub start : (n b : ℕ) → r ≡ Some b → Fresh S w p → CodesIn code n g → Started n p w b u
       unfolding settled_as
-      start n b e f k = record { some_left = some_left; fresh = f; codes_in = k; settled = settled_is (some (b, u)) (ap (λ (y : Found). settled_as y u) e) }
+      start n b e f k = record { some_left = some_left; fresh = f; codes_in = k; settled = settled_is (Some (b, u)) (ap (λ (y : Option ℕ). settled_as y u) e) }
 
 -- ---- the turns
 
@@ -122,7 +119,7 @@ module _ {S : ℕ} {code label : ℕ → ℕ} {left : ℕ} {g : List Pair} {n p 
     count_is = sym (length-take-le k room (omega (arith, going.few, going.size))) ∙ ap length going.codes_are
 
     left_over : place S code label left p g w ≡ into_each go (drop j codes) x
-    left_over = is_settled_as S code label left g p w (some (b, u)) s.some_left s.settled ∙ going.rest
+    left_over = is_settled_as S code label left g p w (Some (b, u)) s.some_left s.settled ∙ going.rest
 
     pub going_size : length x ≡ length w
     going_size = going.done.size ∙ (settle_step S p (end_value g) codes w b u s.fresh.ready up rises).size
@@ -173,7 +170,7 @@ module _ {S : ℕ} {code label : ℕ → ℕ} {left : ℕ} {g : List Pair} {n p 
           pub turn_on : not r ≡ false → (ys room' y : List ℕ) → room' ≡ take k room ++ ys → length room' ≡ length room → y ≡ z → Going S code label left g k b u room₀ room' (j + 1) y
           unfolding placed_as
           turn_on o ys room' y back same q =
-              let went : go c x ≡ some z = into_child ∙ ap (λ (a : Bool). placed_as a z) (not-false r o) in
+              let went : go c x ≡ Some z = into_child ∙ ap (λ (a : Bool). placed_as a z) (not-false r o) in
               rw q (record {
                 to_last = omega arith;
                 small = going.small;

@@ -1,5 +1,5 @@
 -- What `place` knows while it goes into the children of a slot, and what it has to show of each child.
-use Rattle.std.specs.Prelude.{ℕ, ◌+◌, ◌*◌, ◌-◌, ◌^◌, ◌≤◌, ◌<◌, ◌≡◌, ◌≢◌, List, [], ◌++◌, Bool, true, false, not, get_or, length, take, drop}
+use Rattle.std.specs.Prelude.{ℕ, ◌+◌, ◌*◌, ◌-◌, ◌^◌, ◌≤◌, ◌<◌, ◌≡◌, ◌≢◌, List, [], ◌++◌, Bool, true, false, not, get_or, length, take, drop, Some, Option}
 use Rattle.std.proofs.Common.{◌∙◌, arith, Fits}
 use Rattle.std.specs.Int.{w64}
 use borrow.Author.Rules.{Fits-under}
@@ -7,8 +7,6 @@ use Rattle.lxtr_spec.specs.Labels.{length_count, Pair}
 use Rattle.lxtr_spec.specs.KeyLists.{pairs_of}
 use Rattle.lxtr_spec.specs.Joining.{slot_under}
 use Rattle.lxtr_spec.specs.Placing.{child_codes, end_value, settle, below, place}
-use Rattle.lxtr_spec.specs.declared.Found.{Found}
-use Rattle.lxtr_spec.specs.declared.Found.TheVariants.{Is}
 use Rattle.lxtr_build_laws.specs.KeyListFacts.{Ascending}
 use Rattle.lxtr_build_laws.specs.CodeTables.{code_by, label_by, CodeTables}
 use Rattle.lxtr_build_laws.specs.Work.{placed_as}
@@ -39,7 +37,7 @@ module _ (keys starts labels codes order : List ℕ) (S left p : ℕ) (g : Group
 
 module _ {keys starts labels codes order : List ℕ} {S left p : ℕ} {g : Group} {w r : List ℕ} where
   pub within : Called keys starts labels codes order S left p g w r → (k : ℕ) (u room : List ℕ) → k ≤ g.count → length room ≡ length r → take k room ≡ child_codes (code_by labels codes) (group_of keys g) []
-      → (f : Found) (b : ℕ) → settled_as f u ≡ settle S p (end_value (group_of keys g)) (take k room) w → f ≡ Is b → left ≢ 0 → Within keys starts labels codes order S left p g w r k b u room
+      → (f : Option ℕ) (b : ℕ) → settled_as f u ≡ settle S p (end_value (group_of keys g)) (take k room) w → f ≡ Some b → left ≢ 0 → Within keys starts labels codes order S left p g w r k b u room
   within c k u room few size are f b answer is some = record {
     called = c;
     few = few;

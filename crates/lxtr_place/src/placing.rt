@@ -18,7 +18,7 @@ use crate::groups::{Group, below, end_value};
 use crate::settling::settle;
 use lxtr_fit::free_map::{MAP_WORDS, mark_free};
 use lxtr_image::joining::slot_under;
-use lxtr_spec::{Found, LENGTH_COUNT};
+use lxtr_spec::{LENGTH_COUNT};
 
 // Places the children of slot p, which have these codes; g is the group of p. Returns the base of p, if one fits.
 fn settle_group(
@@ -93,7 +93,7 @@ fn place(
     }
     let count = child_codes(keys, g, labels, guesses, codes, room);
     let fit = settle_group(keys, work, slots, free, lowest, p, g, &room[..count]);
-    let Found::Is(base) = fit else {
+    let Some(base) = fit else {
         return false;
     };
     let mut j: usize = 0;

@@ -15,7 +15,6 @@ use lxtr_fit::fitting::first_fit;
 use lxtr_fit::free_map::take_under;
 use lxtr_image::joining::slot_under;
 use lxtr_image::nodes::TOP_BIT;
-use lxtr_spec::Found;
 
 // Writes slot p's own words: its base, and HAS_LEAF in its check if the first of the codes is that of an end.
 fn put_parent(work: &mut [u32], p: u32, base: u32, codes: &[u32])
@@ -92,9 +91,9 @@ pub fn settle(
     ensures free_map_2 { FreeMap slots work.new free.new lowest.new }
 {
     let fit = first_fit(work, slots, free, lowest, codes);
-    let Found::Is(base) = fit else {
-        return Found::Nothing;
+    let Some(base) = fit else {
+        return None;
     };
     put_under(work, free, p, value, base, codes);
-    Found::Is(base)
+    Some(base)
 }

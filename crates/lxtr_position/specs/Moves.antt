@@ -1,9 +1,8 @@
 -- The moves as the code makes them, test by test: which label is walked, which only counts, and when the position stays.
 -- p is the position before, as the code has it; results of calls are variables.
-use Rattle.std.specs.Prelude.{ℕ, ◌+◌, ◌-◌, ◌≤◌, ◌<◌, ◌^◌, ◌≡◌, ◌≢◌, List, Bool, true, false, not, cond, ltb, length}
+use Rattle.std.specs.Prelude.{ℕ, ◌+◌, ◌-◌, ◌≤◌, ◌<◌, ◌^◌, ◌≡◌, ◌≢◌, List, Bool, true, false, not, cond, ltb, length, Some, None, Option}
 use Rattle.std.proofs.Common.{arith, ◌∙◌}
 use Rattle.std.proofs.Math.Path.{sym}
-use Rattle.std.proofs.Math.Option.{some, none}
 use borrow.Author.Tests.{lt-ltb, le-ltb, ltb-true, eq-eqb, ne_eqb}
 use Rattle.lxtr_spec.specs.Labels.{max_labels}
 use Rattle.lxtr_spec.specs.Image.{header_length, slot_count, parent}
@@ -11,12 +10,9 @@ use Rattle.lxtr_spec.specs.Refusals.{unless_refused, header_refusal}
 use Rattle.lxtr_spec.specs.Walks.{step_by}
 use Rattle.lxtr_spec.specs.Positions.{TypingPosition, all_walked, slot_by, one_more, max_typed, pushed, one_less, taken_back, is_placed, MoveAnswer, move_answer, moved_to, reached_slot, position_lookup_of}
 use Rattle.lxtr_spec.specs.Searches.{case_at}
-use Rattle.lxtr_spec.specs.Answers.{found}
-use Rattle.lxtr_spec.specs.declared.Found.{Found}
-use Rattle.lxtr_spec.specs.declared.Found.TheVariants.{Is, Nothing}
 use Rattle.lxtr_spec.specs.declared.Case.{Case}
 use Rattle.lxtr_spec.specs.declared.Case.TheVariants.{Neither}
-use Rattle.lxtr_spec.specs.declared.Lookup.{Lookup}
+use Rattle.lxtr_spec.specs.Searches.{Lookup}
 use Rattle.lxtr_position.specs.Means.{position_means}
 use Rattle.lxtr_position.specs.declared.Position.{Position}
 use Rattle.lxtr_laws.specs.Passed.{Passed, header_passed}
@@ -38,30 +34,30 @@ module _ (b : List ℕ) (r : ℕ) (header : r ≡ header_refusal b) (z : r ≡ 0
 
 -- the slot that one more label x reaches
 module _ (b : List ℕ) (p : Position) (x : ℕ) where
-  pub label_after_failed : p.walked ≢ p.typed → none ≡ slot_by b (position_means p) x
+  pub label_after_failed : p.walked ≢ p.typed → None ≡ slot_by b (position_means p) x
   unfolding slot_by all_walked
   label_after_failed h = rw (ne_eqb p.walked p.typed h)
 
   module _ (all : p.walked ≡ p.typed) where
-    pub label_beyond : max_labels ≤ p.typed → none ≡ slot_by b (position_means p) x
+    pub label_beyond : max_labels ≤ p.typed → None ≡ slot_by b (position_means p) x
     unfolding slot_by all_walked
     label_beyond h = rw (eq-eqb p.walked p.typed all, le-ltb p.typed max_labels h)
 
-    pub label_stepped : (f : Found) → p.typed < max_labels → found f ≡ step_by b p.slot x → found f ≡ slot_by b (position_means p) x
+    pub label_stepped : (f : Option ℕ) → p.typed < max_labels → f ≡ step_by b p.slot x → f ≡ slot_by b (position_means p) x
     unfolding slot_by all_walked
     label_stepped f h e = rw (eq-eqb p.walked p.typed all, lt-ltb p.typed max_labels h, e)
 
   -- f is what the label gave; one that is walked is within the limit of a key
-  module _ (f : Found) (answer : found f ≡ slot_by b (position_means p) x) where
-    pub walked_fits : (t : ℕ) → f ≡ Is t → p.walked + 1 < 2 ^ 16
+  module _ (f : Option ℕ) (answer : f ≡ slot_by b (position_means p) x) where
+    pub walked_fits : (t : ℕ) → f ≡ Some t → p.walked + 1 < 2 ^ 16
     walked_fits t h = let ((all, within), step) = (slot_by_is b (position_means p) x t).0 (found_is f t (slot_by b (position_means p) x) answer h) in omega (arith, length_fits_byte)
 
     module _ (few : p.typed < max_typed) where
-      pub label_counts : (q : Position) → f ≡ Nothing → position_means q ≡ record { slot = p.slot; walked = p.walked; typed = p.typed + 1 } → position_means q ≡ pushed b (position_means p) x
+      pub label_counts : (q : Position) → f ≡ None → position_means q ≡ record { slot = p.slot; walked = p.walked; typed = p.typed + 1 } → position_means q ≡ pushed b (position_means p) x
       unfolding pushed one_more
       label_counts q h e = rw (lt-ltb p.typed max_typed few, found_none f (slot_by b (position_means p) x) answer h) e
 
-      pub label_walks : (t : ℕ) → f ≡ Is t → ◌≡◌ {A = TypingPosition} (record { slot = t; walked = p.walked + 1; typed = p.typed + 1 }) (pushed b (position_means p) x)
+      pub label_walks : (t : ℕ) → f ≡ Some t → ◌≡◌ {A = TypingPosition} (record { slot = t; walked = p.walked + 1; typed = p.typed + 1 }) (pushed b (position_means p) x)
       unfolding pushed one_more
       label_walks t h = rw (lt-ltb p.typed max_typed few, found_is f t (slot_by b (position_means p) x) answer h)
 
@@ -101,16 +97,16 @@ module _ (b : List ℕ) (p : Position) where
     inside_below h = ltb-true p.slot (slot_count b) (inside h)
 
     -- the slot that all labels reach
-    pub reached_outside : not t ≡ true → none ≡ reached_slot b (position_means p)
+    pub reached_outside : not t ≡ true → None ≡ reached_slot b (position_means p)
     unfolding reached_slot
     reached_outside h = rw (outside h)
 
     module _ (placed : not t ≡ false) where
-      pub reached_failed : p.typed ≢ p.walked → none ≡ reached_slot b (position_means p)
+      pub reached_failed : p.typed ≢ p.walked → None ≡ reached_slot b (position_means p)
       unfolding reached_slot all_walked
       reached_failed h = rw (inside placed, ne_eqb p.walked p.typed (λ e. h (sym e)))
 
-      pub reached_all : p.typed ≡ p.walked → some p.slot ≡ reached_slot b (position_means p)
+      pub reached_all : p.typed ≡ p.walked → Some p.slot ≡ reached_slot b (position_means p)
       unfolding reached_slot all_walked
       reached_all h = rw (inside placed, eq-eqb p.walked p.typed (sym h))
 
@@ -129,7 +125,7 @@ unfolding moved_to
 move_refused b p next r m header h e = rw (← header, stands r (cond (is_placed b (position_means p)) next (position_means p)) (position_means p) h) e
 
 -- the slot that all labels reach is one of the image's
-pub reached_slot_lem : (b : List ℕ) (p : Position) (f : Found) → found f ≡ reached_slot b (position_means p) → IsSlot b (found f)
+pub reached_slot_lem : (b : List ℕ) (p : Position) (f : Option ℕ) → f ≡ reached_slot b (position_means p) → IsSlot b f
 reached_slot_lem b p f answer = record { below = λ n e. let ((below, all), same) = (reached_is b (position_means p) n).0 (sym answer ∙ e) in omega (arith, some_same same) }
 
 -- the lookup of a position; f is the slot that all labels reach, and c the case there
@@ -138,7 +134,7 @@ module _ (b : List ℕ) (p : Position) (r : ℕ) (header : r ≡ header_refusal 
   unfolding position_lookup_of
   position_refused h = rw (← header, stands r (case_at b (reached_slot b (position_means p))) Neither h)
 
-  pub position_passed : (f : Found) (c : Case) → r ≡ 0 → found f ≡ reached_slot b (position_means p) → c ≡ case_at b (found f)
+  pub position_passed : (f : Option ℕ) (c : Case) → r ≡ 0 → f ≡ reached_slot b (position_means p) → c ≡ case_at b f
       → ◌≡◌ {A = Lookup} (record { refusal = r; case = c }) (position_lookup_of b (position_means p))
   unfolding position_lookup_of unless_refused
   position_passed f c z place e = rw (z, sym header ∙ z, ← place, e)

@@ -7,7 +7,6 @@ pub mod numbers; // the position as a number
 ghost use Rattle.std.specs.Prelude.{◌≡◌, ◌≤◌, ◌<◌, length};
 ghost use Rattle.lxtr_spec.specs.Image.{header_length, slot_count};
 ghost use Rattle.lxtr_spec.specs.Positions.{fresh_position, slot_by, pushed, taken_back, is_placed, reached_slot, move_answer, push_of, back_of, position_lookup_of};
-ghost use Rattle.lxtr_spec.specs.Answers.{found};
 ghost use Rattle.lxtr_laws.specs.Passed.{Passed};
 ghost use Rattle.lxtr_position.specs.Means.{position_means, moved_means};
 
@@ -15,7 +14,7 @@ use lxtr_header::header_refusal;
 use lxtr_image::nodes::parent_of;
 use lxtr_image::sections::slot_count;
 use lxtr_search::cases::case_at;
-use lxtr_spec::{Case, Found, Lookup, MAX_LABELS, MAX_TYPED};
+use lxtr_spec::{Case, Lookup, MAX_LABELS, MAX_TYPED};
 use lxtr_walk::step_by;
 
 // How many labels were typed, how many of them were walked from slot 1 (all before the first that failed, at most MAX_LABELS), and
@@ -61,13 +60,13 @@ impl Position {
     fn slot_by(self, image: &[u8], label: u32) -> Found
         requires passed { Passed image.now }
         requires slot_bound { self.slot < slot_count image.now }
-        ensures { found result ≡ slot_by image.now (position_means self) label }
+        ensures { result ≡ slot_by image.now (position_means self) label }
     {
         if self.walked != self.typed {
-            return Found::Nothing;
+            return None;
         }
         if MAX_LABELS <= self.typed as usize {
-            return Found::Nothing;
+            return None;
         }
         step_by(image, self.slot, label)
     }
@@ -81,7 +80,7 @@ impl Position {
         if MAX_TYPED <= self.typed {
             return self;
         }
-        let Found::Is(t) = self.slot_by(image, label) else {
+        let Some(t) = self.slot_by(image, label) else {
             return self.counting(self.typed + 1);
         };
         Position {
@@ -121,15 +120,15 @@ impl Position {
     // The place, if all labels typed reach it.
     fn reached_slot(self, image: &[u8]) -> Found
         requires { header_length ≤ length image.now }
-        ensures { found result ≡ reached_slot image.now (position_means self) }
+        ensures { result ≡ reached_slot image.now (position_means self) }
     {
         if !self.is_placed(image) {
-            return Found::Nothing;
+            return None;
         }
         if self.typed != self.walked {
-            return Found::Nothing;
+            return None;
         }
-        Found::Is(self.slot)
+        Some(self.slot)
     }
 
     // The position as an answer.

@@ -2,12 +2,12 @@
 -- does: over an image it answers what the definitions answer, and from any key list it builds what they build, or refuses as they
 -- do. So the programs that document 01 names under "What the promises rule out" fail, and so do builders with three mistakes that
 -- request 2 of document 02 tempts to. Then what is ruled out for the highest value, for code maps and for places of faults.
-use Rattle.std.specs.Prelude.{ℕ, zero, suc, ◌+◌, ◌-◌, ◌%◌, ◌≤◌, ◌<◌, ◌≡◌, refl, ◌≢◌, true, false, ◌&&◌, not, cond, ltb, eqb, length, take, replicate}
+use Rattle.std.specs.Prelude.{ℕ, zero, suc, ◌+◌, ◌-◌, ◌%◌, ◌≤◌, ◌<◌, ◌≡◌, refl, ◌≢◌, true, false, ◌&&◌, not, cond, ltb, eqb, length, take, replicate, Option, Some, None}
 use Rattle.std.proofs.Common.{arith, ◌∙◌, subst, ⊎_elim, inr, true≢false}
 use Rattle.std.proofs.Math.Decide.{ℕ_discrete}
 use Rattle.std.proofs.Math.Path.{sym, ap}
 use mathlib.Core.List.{List, [], ◌∷◌, ◌++◌, Memᴰ, append-nil}
-use Rattle.std.proofs.Math.Option.{Option, some, none, none-ne-some}
+use Rattle.lxtr_laws.specs.StepFacts.{none_not_some}
 use Rattle.std.proofs.lemmas.Bool.{false≢true}
 use Rattle.std.proofs.Math.ListN.{drop, get_or}
 use Rattle.std.proofs.Math.Seq.{take-append_seam}
@@ -24,11 +24,11 @@ use Rattle.lxtr_spec.specs.FaultPlaces.{fault_of}
 use Rattle.lxtr_spec.specs.Sets.{PairSet, Prefix, Has, ImageOf}
 use Rattle.lxtr_spec.specs.Meaning.{Longer, Lists, FittingFront}
 use Rattle.lxtr_spec.specs.Samples.{p1, p2, p3, p7, p8_check, p8_slot, p9_labels, p9_longer, p10, p11}
-use Rattle.lxtr_spec.specs.declared.Verdict.{Verdict}
+use Rattle.lxtr_spec.specs.Refusals.{Verdict}
 use Rattle.lxtr_spec.specs.declared.Case.{Case}
 use Rattle.lxtr_spec.specs.declared.Case.TheVariants.{Neither, PrefixOnly, ExactOnly, ExactAndPrefix}
-use Rattle.lxtr_spec.specs.declared.Lookup.{Lookup}
-use Rattle.lxtr_spec.specs.declared.Prefixes.{Prefixes}
+use Rattle.lxtr_spec.specs.Searches.{Lookup}
+use Rattle.lxtr_spec.specs.Searches.{Prefixes}
 use Rattle.lxtr_spec.specs.declared.Fault.{Fault}
 use Rattle.lxtr_spec.specs.declared.Fault.TheVariants.{Entry}
 use Rattle.lxtr_demands.specs.Operations.{Operations}
@@ -140,8 +140,8 @@ abbrev q61 : List ℕ
 q61 = 0 ∷ 0 ∷ 0 ∷ 0x61 ∷ []
 
 or_1 : Option ℕ → ℕ
-or_1 none = 1
-or_1 (some v) = v
+or_1 None = 1
+or_1 (Some v) = v
 
 value_differs : case_value (lookup_of p3 q6e).case ≡ case_value (lookup_of p3 q61).case → ⊥
 unfolding computing or_1
@@ -418,14 +418,14 @@ module _ (o : Operations) (meets : Demand2Builder o) where
 
 -- the value of the last end among the slots below n
 unfoldable pub last_end : List ℕ → ℕ → Option ℕ
-last_end b zero = none
-last_end b (suc n) = cond (is_end b n) (some (value_number b n)) (last_end b n)
+last_end b zero = None
+last_end b (suc n) = cond (is_end b n) (Some (value_number b n)) (last_end b n)
 
-values1 : ((highest_of p1).value ≡ none) × ((check_of p1).pairs ≡ 0)
+values1 : ((highest_of p1).value ≡ None) × ((check_of p1).pairs ≡ 0)
 unfolding computing
 values1 = (refl, refl)
 
-values11 : ((highest_of p11).value ≡ some 2) × (last_end p11 (slot_count p11) ≡ some 0)
+values11 : ((highest_of p11).value ≡ Some 2) × (last_end p11 (slot_count p11) ≡ Some 0)
 unfolding computing last_end
 values11 = (refl, refl)
 
@@ -433,7 +433,7 @@ p11_300_is_image : IsImage p11_300
 unfolding computing p11_300
 p11_300_is_image = (demand3 p11_300).passes.0 refl
 
-values11_300 : ((highest_of p11_300).value ≡ some 300) × ((check_of p11_300).pairs ≡ 3)
+values11_300 : ((highest_of p11_300).value ≡ Some 300) × ((check_of p11_300).pairs ≡ 3)
 unfolding computing p11_300
 values11_300 = (refl, refl)
 
@@ -460,7 +460,7 @@ module _ (o : Operations) (meets : (b : List ℕ) → HighestValue o b) where
   value_of_lem b = ap (λ (a : HighestAnswer). a.value) (only_highest b)
 
   -- two values that are both said to be the highest
-  same_value : (b : List ℕ) (v w : ℕ) → (highest_of b).value ≡ some v → (o.highest b).value ≡ some w → v ≡ w
+  same_value : (b : List ℕ) (v w : ℕ) → (highest_of b).value ≡ Some v → (o.highest b).value ≡ Some w → v ≡ w
   unfolding or_1
   same_value b v w e f = ap or_1 (sym e ∙ sym (value_of_lem b) ∙ f)
 
@@ -469,22 +469,22 @@ module _ (o : Operations) (meets : (b : List ℕ) → HighestValue o b) where
   pub last_end_fails : ((b : List ℕ) → IsImage b → (o.highest b).value ≡ last_end b (slot_count b)) → ⊥
   last_end_fails same = omega (arith, same_value p11 2 0 values11.0 (same p11 p11_is_image ∙ values11.1))
 
-  pub pairs_less_one_fail : ((b : List ℕ) → IsImage b → (check_of b).pairs ≢ 0 → (o.highest b).value ≡ some ((check_of b).pairs - 1)) → ⊥
+  pub pairs_less_one_fail : ((b : List ℕ) → IsImage b → (check_of b).pairs ≢ 0 → (o.highest b).value ≡ Some ((check_of b).pairs - 1)) → ⊥
   pairs_less_one_fail same =
       let is = same p11_300 p11_300_is_image (λ e. omega (arith, e, values11_300.1)) in
       omega (arith, same_value p11_300 300 ((check_of p11_300).pairs - 1) values11_300.0 is, values11_300.1)
 
-  pub constant_highest_fails : (v : ℕ) → ((b : List ℕ) → IsImage b → (check_of b).pairs ≢ 0 → (o.highest b).value ≡ some v) → ⊥
+  pub constant_highest_fails : (v : ℕ) → ((b : List ℕ) → IsImage b → (check_of b).pairs ≢ 0 → (o.highest b).value ≡ Some v) → ⊥
   constant_highest_fails v same =
       let is = same p11 p11_is_image (λ e. omega (arith, e, p11_counts)) in
       let other = same p11_300 p11_300_is_image (λ e. omega (arith, e, values11_300.1)) in
       omega (arith, same_value p11 2 v values11.0 is, same_value p11_300 300 v values11_300.0 other)
 
-  pub value_of_none_fails : (v : ℕ) → ((b : List ℕ) → IsImage b → (check_of b).pairs ≡ 0 → (o.highest b).value ≡ some v) → ⊥
-  value_of_none_fails v same = none-ne-some v (sym values1.0 ∙ sym (value_of_lem p1) ∙ same p1 more_images.0 values1.1)
+  pub value_of_none_fails : (v : ℕ) → ((b : List ℕ) → IsImage b → (check_of b).pairs ≡ 0 → (o.highest b).value ≡ Some v) → ⊥
+  value_of_none_fails v same = none_not_some (sym values1.0 ∙ sym (value_of_lem p1) ∙ same p1 more_images.0 values1.1)
 
-  pub refused_value_fails : (b : List ℕ) (v : ℕ) → (o.highest b).refusal ≢ 0 → (o.highest b).value ≡ some v → ⊥
-  refused_value_fails b v refuses e = none-ne-some v (sym ((meets b).refused refuses) ∙ e)
+  pub refused_value_fails : (b : List ℕ) (v : ℕ) → (o.highest b).refusal ≢ 0 → (o.highest b).value ≡ Some v → ⊥
+  refused_value_fails b v refuses e = none_not_some (sym ((meets b).refused refuses) ∙ e)
 
 -- ---- code maps
 

@@ -1,12 +1,11 @@
 -- What the demand on typing positions rules out, for every possible program. In the module, o is any program that meets the demand,
 -- whatever else it does: after any moves it answers what the definitions answer. So tempting mistakes fail, each over an image that
 -- shows it.
-use Rattle.std.specs.Prelude.{ℕ, ◌+◌, ◌%◌, ◌≤◌, ◌≡◌, ◌≢◌, ◌⊎◌, length, replicate}
+use Rattle.std.specs.Prelude.{ℕ, ◌+◌, ◌%◌, ◌≤◌, ◌≡◌, ◌≢◌, ◌⊎◌, length, replicate, Option, Some, None}
 use Rattle.std.proofs.Common.{arith, sym, ◌∙◌}
 use Rattle.std.proofs.Math.Path.{refl, ap}
 use Rattle.std.proofs.Math.Logic.{⊎_elim}
 use mathlib.Core.List.{List, [], ◌∷◌}
-use Rattle.std.proofs.Math.Option.{Option, some, none}
 use Rattle.lxtr_spec.specs.Numbers.{be_words}
 use Rattle.lxtr_spec.specs.Labels.{max_labels, labels_of}
 use Rattle.lxtr_spec.specs.Image.{slot_count}
@@ -14,7 +13,7 @@ use Rattle.lxtr_spec.specs.Refusals.{header_refusal}
 use Rattle.lxtr_spec.specs.Searches.{case_value}
 use Rattle.lxtr_spec.specs.Positions.{TypingPosition, MoveAnswer, move_answer, position_lookup_of}
 use Rattle.lxtr_spec.specs.Samples.{p3}
-use Rattle.lxtr_spec.specs.declared.Lookup.{Lookup}
+use Rattle.lxtr_spec.specs.Searches.{Lookup}
 use Rattle.lxtr_demands.specs.TypingPositions.{Move, back, held_after, held_from, held, moved, moved_by, MoveOperations, library, Stays, Words, PositionDemand}
 use Rattle.lxtr_demands.specs.Laws.TypingPositions.{after, position_demand}
 use Rattle.lxtr_demands.specs.Rows.{computing}
@@ -26,8 +25,8 @@ too_many = replicate (max_labels + 1) a
 
 -- a value as a number, so that values can be compared; 9 stands for none
 or_9 : Option ℕ → ℕ
-or_9 none = 9
-or_9 (some v) = v
+or_9 None = 9
+or_9 (Some v) = v
 
 abbrev value_or_9 : Lookup → ℕ
 value_or_9 r = or_9 (case_value r.case)
@@ -40,7 +39,7 @@ over_3 : (answered_3 [] ≡ 9) × (answered_3 (n ∷ []) ≡ 0) × (answered_3 (
 unfolding computing or_9 answered_3
 over_3 = (refl, refl, refl, refl)
 
-over_cycle : case_value (position_lookup_of cycle (after cycle too_many)).case ≡ none
+over_cycle : case_value (position_lookup_of cycle (after cycle too_many)).case ≡ None
 unfolding computing cycle
 over_cycle = refl
 
@@ -71,7 +70,7 @@ module _ (o : MoveOperations) (meets : PositionDemand o) where
   )
 
   -- A program for which a failed label loses the good place fails: after n, x, back it answers none.
-  pub losing_the_place_fails : case_value (answer_of p3 (n ∷ x ∷ back ∷ [])).case ≡ none → ⊥
+  pub losing_the_place_fails : case_value (answer_of p3 (n ∷ x ∷ back ∷ [])).case ≡ None → ⊥
   unfolding or_9
   losing_the_place_fails lost = omega (arith, ap or_9 lost, values_3.2)
 
@@ -80,7 +79,7 @@ module _ (o : MoveOperations) (meets : PositionDemand o) where
   moving_up_fails up = omega (arith, ap or_9 up, values_3.1, values_3.3)
 
   -- One that answers for more labels than a key may have fails, over the cycle.
-  pub answering_too_many_fails : case_value (answer_of cycle too_many).case ≢ none → ⊥
+  pub answering_too_many_fails : case_value (answer_of cycle too_many).case ≢ None → ⊥
   unfolding computing held_after held_from
   answering_too_many_fails answers =
       answers (ap (λ (r : Lookup). case_value r.case) (answer_to cycle too_many (be_words (replicate (max_labels + 1) 0x61)) refl refl) ∙ over_cycle)

@@ -10,7 +10,7 @@ use Rattle.lxtr_spec.specs.Reasons.{why_of, reason_number, reason_place}
 use Rattle.lxtr_spec.specs.Samples.{p3}
 use Rattle.lxtr_spec.specs.declared.Reason.{Reason}
 use Rattle.lxtr_spec.specs.declared.Reason.TheVariants.{NoReason, IsFound, NotListed, NoStep}
-use Rattle.lxtr_spec.specs.declared.Why.{Why}
+use Rattle.lxtr_spec.specs.Reasons.{Why}
 use Rattle.lxtr_demands.specs.TrueReasons.{TrueReason, WhyDemand}
 use Rattle.lxtr_demands.specs.Laws.TrueReasons.{why_demand}
 use Rattle.lxtr_demands.specs.Rows.{computing}

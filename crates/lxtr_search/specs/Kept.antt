@@ -1,10 +1,9 @@
 -- What a loop keeps of the matches that it meets: the places that prefixes answers, or the last length.
 -- One more match changes either as it changes the list of matches.
-use Rattle.std.specs.Prelude.{ℕ, zero, suc, ◌+◌, ◌*◌, ◌-◌, ◌≤◌, ◌<◌, ◌≡◌, refl, List, [], ◌∷◌, ◌++◌, map, length, take, set}
+use Rattle.std.specs.Prelude.{ℕ, zero, suc, ◌+◌, ◌*◌, ◌-◌, ◌≤◌, ◌<◌, ◌≡◌, refl, List, [], ◌∷◌, ◌++◌, map, length, take, set, Option, Some, None}
 use Rattle.std.proofs.Common.{sym, ◌∙◌, append_assoc, append-nil, zero-add, le_refl, arith, length-append, length-take-le}
 use Rattle.std.proofs.Math.Path.{ap}
 use Rattle.std.proofs.lemmas.List.{map-append, length-map}
-use Rattle.std.proofs.Math.Option.{Option, some, none}
 use Rattle.std.proofs.Math.ListN.{length-take}
 use Rattle.std.proofs.Math.Seq.{set-append_seam}
 use Rattle.lxtr_spec.specs.Ranges.{concat_from}
@@ -12,9 +11,7 @@ use Rattle.lxtr_spec.specs.Labels.{max_labels, length_count, labels_of}
 use Rattle.lxtr_spec.specs.Refusals.{unless_refused}
 use Rattle.lxtr_spec.specs.Walks.{value_at, value_of}
 use Rattle.lxtr_spec.specs.Searches.{search_refusal, longest_length, length_match, match_at, matches, prefix_matches, padded, match_length, match_value, prefixes_answer, last_length}
-use Rattle.lxtr_spec.specs.Answers.{found}
-use Rattle.lxtr_spec.specs.declared.Found.{Found}
-use Rattle.lxtr_spec.specs.declared.Prefixes.{Prefixes}
+use Rattle.lxtr_spec.specs.Searches.{Prefixes}
 use Rattle.lxtr_laws.specs.RangeTests.{more, concat_more}
 use Rattle.lxtr_laws.specs.QueryLabels.{label_count_lem}
 use Rattle.lxtr_laws.specs.Walking.{Walked}
@@ -26,13 +23,13 @@ filled n ks vs = record { refusal = 0; count = n; lengths = ks; values = vs }
 
 -- the answer p with a match of length k in the next place, if there is a value
 abbrev pub with_match : Prefixes → ℕ → Option ℕ → Prefixes
-with_match p k none = p
-with_match p k (some v) = record { refusal = p.refusal; count = p.count + 1; lengths = set p.lengths p.count k; values = set p.values p.count v }
+with_match p k None = p
+with_match p k (Some v) = record { refusal = p.refusal; count = p.count + 1; lengths = set p.lengths p.count k; values = set p.values p.count v }
 
 -- length k if it has a value, otherwise the length before
 abbrev pub later_length : ℕ → ℕ → Option ℕ → ℕ
-later_length before k none = before
-later_length before k (some v) = k
+later_length before k None = before
+later_length before k (Some v) = k
 
 padded_set : (xs : List ℕ) (v : ℕ) → length xs < length_count → set (padded xs) (length xs) v ≡ padded (xs ++ v ∷ [])
 padded_set xs v h = rw (length-append, append_assoc, more length_count (length xs) h, set-append_seam)
@@ -45,21 +42,21 @@ cell f ms m h =
 
 filled_more : (r k : ℕ) (o : Option ℕ) (ms : List (ℕ × ℕ)) → length ms < length_count → with_match (prefixes_answer r ms) k o ≡ prefixes_answer r (ms ++ length_match k o)
 unfolding prefixes_answer length_match
-filled_more r k none ms h = rw append-nil
-filled_more r k (some v) ms h =
+filled_more r k None ms h = rw append-nil
+filled_more r k (Some v) ms h =
     λ i. record { refusal = r; count = sym (length-append ms ((k, v) ∷ [])) i; lengths = cell match_length ms (k, v) h i; values = cell match_value ms (k, v) h i }
 
 last_more : (ms : List (ℕ × ℕ)) (k : ℕ) (o : Option ℕ) → last_length (ms ++ length_match k o) ≡ later_length (last_length ms) k o
 unfolding last_length length_match
-last_more [] k none = refl
-last_more [] k (some v) = refl
-last_more (m ∷ []) k none = refl
-last_more (m ∷ []) k (some v) = refl
+last_more [] k None = refl
+last_more [] k (Some v) = refl
+last_more (m ∷ []) k None = refl
+last_more (m ∷ []) k (Some v) = refl
 last_more (m ∷ l ∷ ms) k o = last_more (l ∷ ms) k o
 
 later_within : (before k n : ℕ) (o : Option ℕ) → before ≤ n → k ≤ n → later_length before k o ≤ n
-later_within before k n none h l = h
-later_within before k n (some v) h l = l
+later_within before k n None h l = h
+later_within before k n (Some v) h l = l
 
 -- among the lengths below n, the last match is at most n - 1
 last_within : (f : List ℕ → Option ℕ) (xs : List ℕ) (n : ℕ) → last_length (concat_from n 0 (match_at f xs)) ≤ n - 1
@@ -99,16 +96,16 @@ module _ (b q : List ℕ) where
   longest_part n e = sym (length-take-le (4 * n) q (rw e longest_within))
 
   -- the match at slot 1
-  pub filled_start : (empty first : Prefixes) (f : Found) → Walked b (counted q) 0 1 → empty ≡ prefixes_answer 0 [] → found f ≡ value_at b 1 → first ≡ with_match empty 0 (found f)
+  pub filled_start : (empty first : Prefixes) (f : Option ℕ) → Walked b (counted q) 0 1 → empty ≡ prefixes_answer 0 [] → f ≡ value_at b 1 → first ≡ with_match empty 0 f
       → first ≡ prefixes_answer 0 (matches_to b q 0)
   filled_start empty first f w e g r = rw (r, g, e, filled_more 0 0 (value_at b 1) [] (omega arith), matches_start b q w)
 
   -- a turn of the loop
-  module _ (i t : ℕ) (f : Found) (w : Walked b (counted q) (i + 1) t) (value : found f ≡ value_at b t) where
-    pub filled_next : (before next : Prefixes) → before ≡ prefixes_answer 0 (matches_to b q i) → next ≡ with_match before (i + 1) (found f) → next ≡ prefixes_answer 0 (matches_to b q (i + 1))
+  module _ (i t : ℕ) (f : Option ℕ) (w : Walked b (counted q) (i + 1) t) (value : f ≡ value_at b t) where
+    pub filled_next : (before next : Prefixes) → before ≡ prefixes_answer 0 (matches_to b q i) → next ≡ with_match before (i + 1) f → next ≡ prefixes_answer 0 (matches_to b q (i + 1))
     filled_next before next e g = rw (g, e, value, filled_more 0 (i + 1) (value_at b t) (matches_to b q i) (omega (arith, match_count b q i, w.so_far, length-take max_labels (labels_of q))), matches_next b q i t w)
 
-    pub last_next : (longest next : ℕ) → longest ≡ last_length (matches_to b q i) → next ≡ later_length longest (i + 1) (found f) → next ≡ last_length (matches_to b q (i + 1))
+    pub last_next : (longest next : ℕ) → longest ≡ last_length (matches_to b q i) → next ≡ later_length longest (i + 1) f → next ≡ last_length (matches_to b q (i + 1))
     last_next longest next e g = rw (g, e, value, matches_next b q i t w, last_more)
 
   pub filled_room : (n : ℕ) (ks vs : List ℕ) (m i : ℕ) → filled n ks vs ≡ prefixes_answer 0 (matches_to b q i) → m ≡ length (counted q) → i < m → n < length_count

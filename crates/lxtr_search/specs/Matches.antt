@@ -1,10 +1,9 @@
 -- The prefixes of a query that have a value, as one walk finds them: `matches_to b q i` are those of lengths up to i.
 -- Each slot on the way adds its own match. If the walk stops, no prefix beyond that point has a value.
-use Rattle.std.specs.Prelude.{ℕ, ◌+◌, ◌-◌, ◌≤◌, ◌<◌, ◌≡◌, get_or, take}
+use Rattle.std.specs.Prelude.{ℕ, ◌+◌, ◌-◌, ◌≤◌, ◌<◌, ◌≡◌, get_or, take, Option, Some, None}
 use Rattle.std.proofs.Math.Path.{sym, ap}
 use Rattle.std.proofs.Common.{◌∙◌, zero-add, add-one, length-take, get_or-take}
 use mathlib.Core.List.{List, ◌++◌, append-nil}
-use Rattle.std.proofs.Math.Option.{Option, some, none}
 use native.Mathlib.Omega.{arith}
 use Rattle.std.proofs.Math.ListN.{length}
 use Rattle.lxtr_spec.specs.Ranges.{concat_from}
@@ -12,9 +11,6 @@ use Rattle.lxtr_spec.specs.Labels.{max_labels, labels_of}
 use Rattle.lxtr_spec.specs.Image.{slot_count}
 use Rattle.lxtr_spec.specs.Walks.{step_by, value_at, value_reached, value_of}
 use Rattle.lxtr_spec.specs.Searches.{length_match, match_at, matches, prefix_matches}
-use Rattle.lxtr_spec.specs.Answers.{found}
-use Rattle.lxtr_spec.specs.declared.Found.{Found}
-use Rattle.lxtr_spec.specs.declared.Found.TheVariants.{Is, Nothing}
 use Rattle.lxtr_laws.specs.RangeTests.{concat_more, concat_none, concat_length}
 use Rattle.lxtr_laws.specs.Walking.{Walked, walked_next, walked_stop}
 
@@ -35,8 +31,8 @@ module _ (q : List ℕ) (m : ℕ) (count : m ≡ length (labels_of q)) where
 
 one_match_lem : (k : ℕ) (o : Option ℕ) → length (length_match k o) ≤ 1
 unfolding length_match
-one_match_lem k none = omega arith
-one_match_lem k (some v) = omega arith
+one_match_lem k None = omega arith
+one_match_lem k (Some v) = omega arith
 
 module _ (b q : List ℕ) where
   pub match_count : (i : ℕ) → length (matches_to b q i) ≤ i + 1
@@ -61,17 +57,17 @@ module _ (b q : List ℕ) where
     counted_place h = omega (arith, length-take max_labels (labels_of q))
 
     -- f is what the step by the next label x answered
-    module _ (x : ℕ) (f : Found) (turn : i < m) (label : x ≡ get_or (labels_of q) i 0) (answer : found f ≡ step_by b n x) where
+    module _ (x : ℕ) (f : Option ℕ) (turn : i < m) (label : x ≡ get_or (labels_of q) i 0) (answer : f ≡ step_by b n x) where
       same_label_lem : x ≡ get_or (counted q) i 0
       same_label_lem = label ∙ sym (get_or-take max_labels (labels_of q) i 0 (omega (arith, length-take max_labels (labels_of q))))
 
-      pub counted_next : (t : ℕ) → f ≡ Is t → Walked b (counted q) (i + 1) t
+      pub counted_next : (t : ℕ) → f ≡ Some t → Walked b (counted q) (i + 1) t
       counted_next = walked_next b (counted q) m i n count w x f turn same_label_lem answer
 
-      pub counted_below : (t : ℕ) → f ≡ Is t → t < slot_count b
+      pub counted_below : (t : ℕ) → f ≡ Some t → t < slot_count b
       counted_below t h = (counted_next t h).below
 
-      stopped : f ≡ Nothing → matches_to b q i ≡ prefix_matches b q
+      stopped : f ≡ None → matches_to b q i ≡ prefix_matches b q
       unfolding prefix_matches matches match_at value_of value_reached length_match
       stopped r =
           let g = match_at (value_of b) (counted q) in
@@ -85,7 +81,7 @@ module _ (b q : List ℕ) where
 
 -- what is kept of the matches so far is then what is kept of all
 module _ {A : Type 0} (keep : List (ℕ × ℕ) → A) (b q : List ℕ) (m i n : ℕ) (a : A) (count : m ≡ length (counted q)) (w : Walked b (counted q) i n) (kept : a ≡ keep (matches_to b q i)) where
-  pub kept_stop : (x : ℕ) (f : Found) → i < m → x ≡ get_or (labels_of q) i 0 → found f ≡ step_by b n x → f ≡ Nothing → a ≡ keep (prefix_matches b q)
+  pub kept_stop : (x : ℕ) (f : Option ℕ) → i < m → x ≡ get_or (labels_of q) i 0 → f ≡ step_by b n x → f ≡ None → a ≡ keep (prefix_matches b q)
   kept_stop x f turn label answer h = kept ∙ ap keep (stopped b q m i n count w x f turn label answer h)
 
   pub kept_end : m ≤ i → a ≡ keep (prefix_matches b q)

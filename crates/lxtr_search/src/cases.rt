@@ -1,24 +1,23 @@
 // The four cases of a lookup: which one a slot has, and what each says.
 ghost use Rattle.std.specs.Prelude.{◌≡◌};
 ghost use Rattle.lxtr_spec.specs.Searches.{case_value, case_longer, case_at};
-ghost use Rattle.lxtr_spec.specs.Answers.{found};
 ghost use Rattle.lxtr_laws.specs.Passed.{Passed};
 ghost use Rattle.lxtr_laws.specs.Walking.{IsSlot};
 
-use lxtr_spec::{Case, Found, Lookup};
+use lxtr_spec::{Case, Lookup};
 use lxtr_walk::{longer_at, value_at};
 
 // The case at the slot that a walk reached; nothing, if it reached none.
-pub fn case_at(image: &[u8], slot: Found) -> Case
+pub fn case_at(image: &[u8], slot: Option<u32>) -> Case
     requires passed { Passed image.now }
-    requires slot { IsSlot image.now (found slot) }
-    ensures { result ≡ case_at image.now (found slot) }
+    requires slot { IsSlot image.now slot }
+    ensures { result ≡ case_at image.now slot }
 {
-    let Found::Is(n) = slot else {
+    let Some(n) = slot else {
         return Case::Neither;
     };
     let longer = longer_at(image, n);
-    let Found::Is(value) = value_at(image, n) else {
+    let Some(value) = value_at(image, n) else {
         if longer {
             return Case::PrefixOnly;
         }
@@ -32,14 +31,14 @@ pub fn case_at(image: &[u8], slot: Found) -> Case
 
 // The value that a lookup found, or none.
 pub fn found_value(answer: Lookup) -> Found
-    ensures { found result ≡ case_value answer.case }
+    ensures { result ≡ case_value answer.case }
 {
     let case = answer.case;
     match case {
-        Case::Neither => Found::Nothing,
-        Case::PrefixOnly => Found::Nothing,
-        Case::ExactOnly(v) => Found::Is(v),
-        Case::ExactAndPrefix(v) => Found::Is(v),
+        Case::Neither => None,
+        Case::PrefixOnly => None,
+        Case::ExactOnly(v) => Some(v),
+        Case::ExactAndPrefix(v) => Some(v),
     }
 }
 

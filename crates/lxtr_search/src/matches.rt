@@ -2,12 +2,11 @@
 ghost use Rattle.std.specs.Prelude.{◌≡◌, ◌<◌, [], length, take};
 ghost use Rattle.lxtr_spec.specs.Labels.{max_labels, length_count, labels_of};
 ghost use Rattle.lxtr_spec.specs.Searches.{prefix_matches, prefixes_answer, prefixes_of, last_length};
-ghost use Rattle.lxtr_spec.specs.Answers.{found};
 ghost use Rattle.lxtr_laws.specs.Passed.{Passed};
 ghost use Rattle.lxtr_search.specs.Kept.{filled, with_match, later_length};
 
 use lxtr_bytes::labels::{label_at, label_count};
-use lxtr_spec::{Found, LENGTH_COUNT, MAX_LABELS};
+use lxtr_spec::{LENGTH_COUNT, MAX_LABELS};
 use lxtr_walk::{search_refusal, step_by, value_at};
 
 // How many labels of a query count: at most MAX_LABELS.
@@ -28,12 +27,12 @@ fn put_match(
     values: &mut [u32; LENGTH_COUNT],
     count: u32,
     k: u32,
-    value: Found,
+    value: Option<u32>,
 ) -> u32
     requires { count < length_count }
-    ensures { filled result lengths.new values.new ≡ with_match (filled count lengths.old values.old) k (found value) }
+    ensures { filled result lengths.new values.new ≡ with_match (filled count lengths.old values.old) k value }
 {
-    let Found::Is(v) = value else {
+    let Some(v) = value else {
         return count;
     };
     lengths[count as usize] = k;
@@ -57,7 +56,7 @@ fn put_matches(
     let mut n: u32 = 1;
     let mut i: u32 = 0;
     while i < labels {
-        let Found::Is(t) = step_by(image, n, label_at(query, i as usize)) else {
+        let Some(t) = step_by(image, n, label_at(query, i as usize)) else {
             break;
         };
         let length = i + 1;
@@ -89,12 +88,12 @@ pub fn put_prefixes(
 }
 
 // Length k if there is a value at it, otherwise the length before.
-fn later_length(before: u32, k: u32, value: Found) -> u32
-    ensures { result ≡ later_length before k (found value) }
+fn later_length(before: u32, k: u32, value: Option<u32>) -> u32
+    ensures { result ≡ later_length before k value }
 {
     match value {
-        Found::Is(_) => k,
-        Found::Nothing => before,
+        Some(_) => k,
+        None => before,
     }
 }
 
@@ -108,7 +107,7 @@ pub fn longest_match(image: &[u8], query: &[u8]) -> u32
     let mut n: u32 = 1;
     let mut i: u32 = 0;
     while i < labels {
-        let Found::Is(t) = step_by(image, n, label_at(query, i as usize)) else {
+        let Some(t) = step_by(image, n, label_at(query, i as usize)) else {
             break;
         };
         let length = i + 1;

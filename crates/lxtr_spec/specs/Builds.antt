@@ -1,6 +1,5 @@
 -- Document 01, "Building": the image that a key list gives, or its refusal, and what the lent memory holds afterwards.
-use Rattle.std.specs.Prelude.{ℕ, zero, suc, ◌+◌, ◌*◌, ◌/◌, min, List, [], ◌∷◌, ◌++◌, Bool, true, false, ◌&&◌, ◌||◌, cond, length, take, drop, replicate, leb, ltb, eqb}
-use Rattle.std.proofs.Math.Option.{Option, some, none}
+use Rattle.std.specs.Prelude.{ℕ, zero, suc, ◌+◌, ◌*◌, ◌/◌, min, List, [], ◌∷◌, ◌++◌, Bool, true, false, ◌&&◌, ◌||◌, cond, length, take, drop, replicate, leb, ltb, eqb, Option, Some, None}
 use Rattle.lxtr_spec.specs.Ranges.{concat_from}
 use Rattle.lxtr_spec.specs.Numbers.{be_bytes, le_words, be_words}
 use Rattle.lxtr_spec.specs.Labels.{length_count, max_slots, max_listed, Pair}
@@ -9,7 +8,6 @@ use Rattle.lxtr_spec.specs.Image.{magic, top_bit, low31}
 use Rattle.lxtr_spec.specs.KeyLists.{list_refusal, pairs_of}
 use Rattle.lxtr_spec.specs.CodeMaps.{map_of, code_in, label_with}
 use Rattle.lxtr_spec.specs.Placing.{base_at, check_at, is_taken_from2, place}
-use Rattle.lxtr_spec.specs.declared.Built.{Built}
 
 -- The bytes of an image: its header, its code map, and all of it, with these nodes (base and check of each slot), offsets, children and
 -- labels. M = 5 + 4L.
@@ -72,8 +70,8 @@ with_room R image = elim (ltb R (length image)) [ true ↦ refuses 23 | false �
 
 -- 22 at some slot no base fits
 unfoldable pub from_placed : ℕ → ℕ → List ℕ → Option (List ℕ) → Outcome
-from_placed S R labels none = refuses 22
-from_placed S R labels (some w) = with_room R (image_in w (slots_used w S) labels)
+from_placed S R labels None = refuses 22
+from_placed S R labels (Some w) = with_room R (image_in w (slots_used w S) labels)
 
 -- 20 more than 4,095 distinct labels
 unfoldable pub from_labels : ℕ → ℕ → List Pair → List ℕ → Outcome
@@ -86,6 +84,11 @@ from_keys W R keys = elim (list_refusal keys) [ zero ↦ from_labels W R (pairs_
 -- Refusals, in order: 21 W below 4; then those above.
 unfoldable pub outcome_of : ℕ → ℕ → List ℕ → Outcome
 outcome_of W R keys = elim (ltb W 4) [ true ↦ refuses 21 | false ↦ from_keys W R keys ]
+
+-- the refusal, and the length of the image in bytes
+pub record Built : Type 0 where
+  pub refusal : ℕ
+  pub length : ℕ
 
 -- the answer, with output and work after the call
 pub record BuildAnswer : Type 0 where

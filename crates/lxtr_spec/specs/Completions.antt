@@ -1,6 +1,5 @@
 -- Document 01, "The searches": completions into lent room.
-use Rattle.std.specs.Prelude.{ℕ, zero, suc, ◌+◌, ◌*◌, ◌-◌, List, [], ◌∷◌, ◌++◌, Bool, true, false, cond, length, drop, leb, ltb}
-use Rattle.std.proofs.Math.Option.{Option, some, none}
+use Rattle.std.specs.Prelude.{ℕ, zero, suc, ◌+◌, ◌*◌, ◌-◌, List, [], ◌∷◌, ◌++◌, Bool, true, false, cond, length, drop, leb, ltb, Option, Some, None}
 use Rattle.lxtr_spec.specs.Ranges.{concat_from}
 use Rattle.lxtr_spec.specs.Numbers.{be_bytes, be_words}
 use Rattle.lxtr_spec.specs.Labels.{length_count, labels_of, Pair}
@@ -8,7 +7,6 @@ use Rattle.lxtr_spec.specs.Image.{is_leaf, value_number, code_to, offset, child,
 use Rattle.lxtr_spec.specs.Refusals.{refuse_if, first_refusal, unless_refused, body_refusal}
 use Rattle.lxtr_spec.specs.Walks.{walk_within}
 use Rattle.lxtr_spec.specs.Searches.{search_refusal}
-use Rattle.lxtr_spec.specs.declared.Completion.{Completion}
 
 -- Depth first, children by ascending code, so an end precedes its longer keys.
 
@@ -28,8 +26,8 @@ list_from b (suc k) n key = concat_from (list_width b n) (offset b n) (entry_pai
 
 -- the pairs below the slot that a walk reached
 unfoldable pub pairs_at : List ℕ → List ℕ → Option ℕ → List Pair
-pairs_at b xs none = []
-pairs_at b xs (some n) = list_from b (length_count - length xs) n xs
+pairs_at b xs None = []
+pairs_at b xs (Some n) = list_from b (length_count - length xs) n xs
 
 -- The pairs whose keys begin with the labels. A prefix beyond 64 labels or not present gives count 0.
 unfoldable pub pairs_below : List ℕ → List ℕ → List Pair
@@ -60,6 +58,12 @@ listed_in room ps = listing_of ps ++ drop (length (listing_of ps)) room
 unfoldable pub room_for : List Pair → ℕ
 room_for [] = 5
 room_for (p ∷ ps) = (5 + 4 * length p.0) + room_for ps
+
+-- the refusal, the count, and whether the listing stopped
+pub record Completion : Type 0 where
+  pub refusal : ℕ
+  pub count : ℕ
+  pub stopped : Bool
 
 -- the answer, with the room after the call
 pub record CompletionAnswer : Type 0 where

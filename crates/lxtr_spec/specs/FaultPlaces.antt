@@ -1,13 +1,13 @@
 -- Where a fault lies: for refusals 9 to 12 the first place at which the rule does not hold. Document 01 has the rules, not the places.
-use Rattle.std.specs.Prelude.{ℕ, ◌+◌, List, Bool, true, false, ◌&&◌, not, eqb}
+use Rattle.std.specs.Prelude.{ℕ, ◌+◌, List, Bool, true, false, ◌&&◌, not, eqb, Option, Some, None}
 use Rattle.lxtr_spec.specs.Ranges.{any_below, first_below}
 use Rattle.lxtr_spec.specs.Image.{slot_count, child_count, parent, offset, child, list_width, label_count}
 use Rattle.lxtr_spec.specs.Refusals.{label_wrong, is_used_from2, slot_wrong, offset_falls, used_count, entry_wrong_in, entries_wrong, childless, unreachable, image_refusal}
 use Rattle.lxtr_spec.specs.declared.Fault.{Fault}
-use Rattle.lxtr_spec.specs.declared.Fault.TheVariants.{Nowhere, Label, Slot, Offset, Entry, Unlisted, Childless, RootBase, Unreachable}
+use Rattle.lxtr_spec.specs.declared.Fault.TheVariants.{Label, Slot, Offset, Entry, Unlisted, Childless, RootBase, Unreachable}
 
 -- the fault if it is there, and otherwise what comes after it
-unfoldable pub fault_if : Bool → Fault → Fault → Fault
+unfoldable pub fault_if : {A : Type 0} → Bool → A → A → A
 fault_if true here later = here
 fault_if false here later = later
 
@@ -62,11 +62,11 @@ unfoldable pub reach_fault : List ℕ → Fault
 reach_fault b = Unreachable (first_below (slot_count b) (unreachable b))
 
 -- the one of these four that belongs to a refusal; for 1 to 8, or no refusal, there is no place
-unfoldable pub fault_by : ℕ → Fault → Fault → Fault → Fault → Fault
-fault_by k label slot list reach = fault_if (eqb k 9) label (fault_if (eqb k 10) slot (fault_if (eqb k 11) list (fault_if (eqb k 12) reach Nowhere)))
+unfoldable pub fault_by : ℕ → Fault → Fault → Fault → Fault → Option Fault
+fault_by k label slot list reach = fault_if (eqb k 9) (Some label) (fault_if (eqb k 10) (Some slot) (fault_if (eqb k 11) (Some list) (fault_if (eqb k 12) (Some reach) None)))
 
 -- (What a `let` binds is computed only where it is used: each only after its refusal.)
-unfoldable pub fault_of : List ℕ → Fault
+unfoldable pub fault_of : List ℕ → Option Fault
 fault_of b =
     let label = label_fault b in
     let slot = slot_fault b in

@@ -1,23 +1,18 @@
 -- Document 01, "The searches": the 64-bit number that an operation answers to a host program in C.
-use Rattle.std.specs.Prelude.{ℕ, ◌+◌, ◌*◌, ◌/◌, ◌%◌, ◌^◌, List, [], ◌∷◌, ◌++◌, Bool, true, false, cond, length, take, drop, get_or}
-use Rattle.std.proofs.Math.Option.{Option, some, none}
+use Rattle.std.specs.Prelude.{ℕ, ◌+◌, ◌*◌, ◌/◌, ◌%◌, ◌^◌, List, [], ◌∷◌, ◌++◌, Bool, true, false, cond, length, take, drop, get_or, Option, Some, None}
 use Rattle.lxtr_spec.specs.Ranges.{concat_from}
 use Rattle.lxtr_spec.specs.Labels.{length_count}
 use Rattle.lxtr_spec.specs.Refusals.{unless_refused, check_of}
 use Rattle.lxtr_spec.specs.FaultPlaces.{fault_of}
 use Rattle.lxtr_spec.specs.HighestValues.{highest_of}
-use Rattle.lxtr_spec.specs.Searches.{search_refusal, case_value, case_longer, lookup_of, prefixes_of, longest_length}
+use Rattle.lxtr_spec.specs.Searches.{Lookup, Prefixes, search_refusal, case_value, case_longer, lookup_of, prefixes_of, longest_length}
 use Rattle.lxtr_spec.specs.Positions.{TypingPosition, fresh_position, push_of, back_of, position_lookup_of}
 use Rattle.lxtr_spec.specs.Reasons.{why_of, reason_number, reason_place}
-use Rattle.lxtr_spec.specs.Completions.{completion_of}
-use Rattle.lxtr_spec.specs.Builds.{build_of}
+use Rattle.lxtr_spec.specs.Completions.{Completion, completion_of}
+use Rattle.lxtr_spec.specs.Builds.{Built, build_of}
 use Rattle.lxtr_spec.specs.declared.Fault.{Fault}
-use Rattle.lxtr_spec.specs.declared.Fault.TheVariants.{Nowhere, Label, Slot, Offset, Entry, Unlisted, Childless, RootBase, Unreachable}
-use Rattle.lxtr_spec.specs.declared.Lookup.{Lookup}
+use Rattle.lxtr_spec.specs.declared.Fault.TheVariants.{Label, Slot, Offset, Entry, Unlisted, Childless, RootBase, Unreachable}
 use Rattle.lxtr_spec.specs.declared.Reason.{Reason}
-use Rattle.lxtr_spec.specs.declared.Prefixes.{Prefixes}
-use Rattle.lxtr_spec.specs.declared.Completion.{Completion}
-use Rattle.lxtr_spec.specs.declared.Built.{Built}
 
 -- Check, exact, probe and the length of longest are also called by the terminal's host program, which is in C, with byte buffers and
 -- number results. Each answers one 64-bit number: the refusal number times 2^40, plus 2^33 if longer keys exist (probe only),
@@ -27,8 +22,8 @@ host_number k more valued n = k * 2 ^ 40 + cond more (2 ^ 33) 0 + cond valued (2
 
 -- the number of a value or none
 unfoldable pub value_numbered : ℕ → Bool → Option ℕ → ℕ
-value_numbered k more none = host_number k more false 0
-value_numbered k more (some v) = host_number k more true v
+value_numbered k more None = host_number k more false 0
+value_numbered k more (Some v) = host_number k more true v
 
 unfoldable pub check_number : List ℕ → ℕ
 check_number b = host_number (check_of b).refusal false false (check_of b).pairs
@@ -57,16 +52,16 @@ unfoldable pub place_number : ℕ → ℕ → ℕ → ℕ
 place_number k kind place = k * 2 ^ 40 + kind * 2 ^ 34 + place
 
 -- Where a fault lies: its refusal, for refusal 11 the kind of fault, and the place. An entry is given by its place in the children array.
-unfoldable pub fault_numbered : Fault → ℕ
-fault_numbered Nowhere = 0
-fault_numbered (Label i) = place_number 9 0 i
-fault_numbered (Slot s) = place_number 10 0 s
-fault_numbered (Offset p) = place_number 11 1 p
-fault_numbered (Entry p j) = place_number 11 2 j
-fault_numbered (Unlisted s) = place_number 11 3 s
-fault_numbered (Childless s) = place_number 11 4 s
-fault_numbered RootBase = place_number 11 5 1
-fault_numbered (Unreachable s) = place_number 12 0 s
+unfoldable pub fault_numbered : Option Fault → ℕ
+fault_numbered None = 0
+fault_numbered (Some (Label i)) = place_number 9 0 i
+fault_numbered (Some (Slot s)) = place_number 10 0 s
+fault_numbered (Some (Offset p)) = place_number 11 1 p
+fault_numbered (Some (Entry p j)) = place_number 11 2 j
+fault_numbered (Some (Unlisted s)) = place_number 11 3 s
+fault_numbered (Some (Childless s)) = place_number 11 4 s
+fault_numbered (Some RootBase) = place_number 11 5 1
+fault_numbered (Some (Unreachable s)) = place_number 12 0 s
 
 unfoldable pub fault_number : List ℕ → ℕ
 fault_number b = fault_numbered (fault_of b)
@@ -76,7 +71,7 @@ unfoldable pub highest_number : List ℕ → ℕ
 highest_number b = value_numbered (highest_of b).refusal false (highest_of b).value
 
 -- Why a query is found or not: its refusal, the reason, and the place.
-unfoldable pub reason_numbered : ℕ → Reason → ℕ
+unfoldable pub reason_numbered : ℕ → Option Reason → ℕ
 reason_numbered k r = place_number k (reason_number r) (reason_place r)
 
 unfoldable pub why_number : List ℕ → List ℕ → ℕ

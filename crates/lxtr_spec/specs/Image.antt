@@ -1,6 +1,5 @@
 -- Document 01, "The image": header, nodes, offsets, children, code map.
-use Rattle.std.specs.Prelude.{ℕ, zero, suc, ◌+◌, ◌*◌, ◌-◌, ◌%◌, ◌^◌, List, [], ◌∷◌, Bool, true, false, ◌&&◌, leb, ltb, eqb}
-use Rattle.std.proofs.Math.Option.{Option, some, none}
+use Rattle.std.specs.Prelude.{ℕ, zero, suc, ◌+◌, ◌*◌, ◌-◌, ◌%◌, ◌^◌, List, [], ◌∷◌, Bool, true, false, ◌&&◌, leb, ltb, eqb, Option, Some, None}
 use Rattle.lxtr_spec.specs.Numbers.{byte_at, le32, be32}
 use Rattle.lxtr_spec.specs.Joining.{slot_under, code_under}
 
@@ -112,8 +111,8 @@ label_of_code b c = label_at b (c - 1)
 
 -- The code of a label is its first place in the map: first among the n places starting at i, then among all places.
 unfoldable pub code_from : List ℕ → ℕ → ℕ → ℕ → Option ℕ
-code_from b x zero i = none
-code_from b x (suc n) i = elim (eqb (label_at b i) x) [ true ↦ some (i + 1) | false ↦ code_from b x n (i + 1) ]
+code_from b x zero i = None
+code_from b x (suc n) i = elim (eqb (label_at b i) x) [ true ↦ Some (i + 1) | false ↦ code_from b x n (i + 1) ]
 
 unfoldable pub code_of : List ℕ → ℕ → Option ℕ
 code_of b x = code_from b x (label_count b) 0

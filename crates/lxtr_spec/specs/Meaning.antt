@@ -1,7 +1,6 @@
 -- What each search answers in terms of the set of pairs d of an image, where xs are the labels of the query.
-use Rattle.std.specs.Prelude.{ℕ, ◌≤◌, ◌<◌, ◌≡◌, ◌⊎◌, Bool, true, length}
+use Rattle.std.specs.Prelude.{ℕ, ◌≤◌, ◌<◌, ◌≡◌, ◌⊎◌, Bool, true, length, Option, Some, None, unwrap_or}
 use mathlib.Core.List.{List, [], ◌∷◌, ◌++◌, map, Memᴰ}
-use Rattle.std.proofs.Math.Option.{Option, some, none, get_or}
 use Rattle.lxtr_spec.specs.Labels.{comes_before, Pair}
 use Rattle.lxtr_spec.specs.Image.{code_of}
 use Rattle.lxtr_spec.specs.Completions.{room_for}
@@ -20,8 +19,8 @@ Shorter m n = m.0 < n.0
 
 -- The highest value number of the set: h is some key's value that no other is above, or none if there is no key.
 pub record HighestIn (d : PairSet) (h : Option ℕ) : Type 0 where
-  pub most : (k : List ℕ) (v : ℕ) → Has d k v → (w : ℕ) × (h ≡ some w) × (v ≤ w)
-  pub is : (w : ℕ) → h ≡ some w → (k : List ℕ) × Has d k w
+  pub most : (k : List ℕ) (v : ℕ) → Has d k v → (w : ℕ) × (h ≡ Some w) × (v ≤ w)
+  pub is : (w : ℕ) → h ≡ Some w → (k : List ℕ) × Has d k w
 
 -- Prefixes: ms are length and value of exactly those prefixes of the labels that are keys, shortest first.
 pub record PrefixesIn (d : PairSet) (xs : List ℕ) (ms : List (ℕ × ℕ)) : Type 0 where
@@ -45,14 +44,14 @@ pub record Longer (d : PairSet) (xs : List ℕ) : Type 0 where
 -- Exact: they are a key with this value, and no proper front part of one. Exact and prefix: they are both.
 abbrev pub CaseIn : PairSet → List ℕ → Case → Type 0
 CaseIn d xs Neither = (r : List ℕ) (v : ℕ) → Has d (xs ++ r) v → ⊥
-CaseIn d xs PrefixOnly = Longer d xs × (d xs ≡ none)
+CaseIn d xs PrefixOnly = Longer d xs × (d xs ≡ None)
 CaseIn d xs (ExactOnly v) = Has d xs v × (Longer d xs → ⊥)
 CaseIn d xs (ExactAndPrefix v) = Has d xs v × Longer d xs
 
 -- Code order compares keys by their labels' codes, one after the other, a proper prefix first. (Every label of a key is listed, so
 -- the 0 for a missing code is never used.)
 unfoldable pub label_code : List ℕ → ℕ → ℕ
-label_code b x = get_or (code_of b x) 0
+label_code b x = unwrap_or (code_of b x) 0
 
 unfoldable pub before_by_code : List ℕ → List ℕ → List ℕ → Bool
 before_by_code b k l = comes_before (map (label_code b) k) (map (label_code b) l)

@@ -1,6 +1,5 @@
 -- Document 01, "Building": slots placed by first fit. The lent work is the state: words 2 s and 2 s + 1 are base and check of slot s.
-use Rattle.std.specs.Prelude.{ℕ, zero, suc, ◌+◌, ◌*◌, ◌^◌, List, [], ◌∷◌, Bool, true, false, ◌&&◌, not, get_or, set, leb, ltb, eqb}
-use Rattle.std.proofs.Math.Option.{Option, some, none}
+use Rattle.std.specs.Prelude.{ℕ, zero, suc, ◌+◌, ◌*◌, ◌^◌, List, [], ◌∷◌, Bool, true, false, ◌&&◌, not, get_or, set, leb, ltb, eqb, Option, Some, None}
 use Rattle.lxtr_spec.specs.Labels.{Pair}
 use Rattle.lxtr_spec.specs.Joining.{slot_under}
 use Rattle.lxtr_spec.specs.Image.{low31}
@@ -29,8 +28,8 @@ fits S w (c ∷ cs) b = is_free S w (slot_under b c) && fits S w cs b
 -- A slot's base is the smallest number from 0 to 65,535 for which every child's slot is free and lies in 2 to S-1:
 -- first among the n numbers starting at b, then among all.
 unfoldable pub first_fit_from : ℕ → List ℕ → List ℕ → ℕ → ℕ → Option ℕ
-first_fit_from S w cs zero b = none
-first_fit_from S w cs (suc n) b = elim (fits S w cs b) [ true ↦ some b | false ↦ first_fit_from S w cs n (b + 1) ]
+first_fit_from S w cs zero b = None
+first_fit_from S w cs (suc n) b = elim (fits S w cs b) [ true ↦ Some b | false ↦ first_fit_from S w cs n (b + 1) ]
 
 abbrev pub base_count : ℕ
 base_count = 65536
@@ -78,21 +77,21 @@ put_parent p b (suc c ∷ cs) w = set w (2 * p) b
 
 -- p's base by first fit, and the work with p's children placed under it; none if no base fits
 unfoldable pub settle : ℕ → ℕ → ℕ → List ℕ → List ℕ → Option (ℕ × List ℕ)
-settle S p v cs w = elim (first_fit S w cs) [ none ↦ none | some b ↦ some (b, put_children p v b cs (put_parent p b cs w)) ]
+settle S p v cs w = elim (first_fit S w cs) [ None ↦ None | Some b ↦ Some (b, put_children p v b cs (put_parent p b cs w)) ]
 
 -- applies f for each of these codes in turn, until it gives none; an end, which has code 0, has nothing below it
 unfoldable pub into_each : (ℕ → List ℕ → Option (List ℕ)) → List ℕ → List ℕ → Option (List ℕ)
-into_each f [] w = some w
+into_each f [] w = Some w
 into_each f (zero ∷ cs) w = into_each f cs w
-into_each f (suc c ∷ cs) w = elim (f (suc c) w) [ none ↦ none | some w' ↦ into_each f cs w' ]
+into_each f (suc c ∷ cs) w = elim (f (suc c) w) [ None ↦ None | Some w' ↦ into_each f cs w' ]
 
 -- Place slot 1's children, then go into each child by ascending code, down to its end, before the next. The same for any slot p:
 -- the work after slot p with its group g is placed, with k labels still allowed; none if at some slot no base fits.
 unfoldable pub place : ℕ → (ℕ → ℕ) → (ℕ → ℕ) → ℕ → ℕ → List Pair → List ℕ → Option (List ℕ)
-place S code label zero p g w = some w
+place S code label zero p g w = Some w
 place S code label (suc k) p g w =
     let cs = child_codes code g [] in
     elim (settle S p (end_value g) cs w) [
-      | none ↦ none
-      | some s ↦ into_each (λ c w'. place S code label k (slot_under s.0 c) (below (label c) g) w') cs s.1
+      | None ↦ None
+      | Some s ↦ into_each (λ c w'. place S code label k (slot_under s.0 c) (below (label c) g) w') cs s.1
     ]

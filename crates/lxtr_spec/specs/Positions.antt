@@ -1,13 +1,12 @@
 -- Document 02, request 3: a typing position, for all images and positions. Where it says probe, request 6 put the lookup.
-use Rattle.std.specs.Prelude.{ℕ, ◌+◌, ◌-◌, List, Bool, ◌&&◌, cond, ltb, eqb}
-use Rattle.std.proofs.Math.Option.{Option, some, none}
+use Rattle.std.specs.Prelude.{ℕ, ◌+◌, ◌-◌, List, Bool, ◌&&◌, cond, ltb, eqb, Option, Some, None}
 use Rattle.lxtr_spec.specs.Labels.{max_labels}
 use Rattle.lxtr_spec.specs.Image.{slot_count, parent}
 use Rattle.lxtr_spec.specs.Refusals.{unless_refused, header_refusal}
 use Rattle.lxtr_spec.specs.Walks.{step_by}
 use Rattle.lxtr_spec.specs.Searches.{case_at}
 use Rattle.lxtr_spec.specs.declared.Case.TheVariants.{Neither}
-use Rattle.lxtr_spec.specs.declared.Lookup.{Lookup}
+use Rattle.lxtr_spec.specs.Searches.{Lookup}
 
 -- A position takes one more label or takes the last one back, hands back the new position, and answers as probe would for the labels
 -- typed so far. It is three numbers: how many labels were typed, how many of them were walked from slot 1 (all before the first that
@@ -28,11 +27,11 @@ all_walked p = eqb p.walked p.typed
 -- After a failed step further labels only count. A label beyond 64 is answered none, no, and counts ..
 -- (the slot that one more label reaches, or none if the label only counts)
 unfoldable pub slot_by : List ℕ → TypingPosition → ℕ → Option ℕ
-slot_by b p x = let t = step_by b p.slot x in cond (all_walked p && ltb p.typed max_labels) t none
+slot_by b p x = let t = step_by b p.slot x in cond (all_walked p && ltb p.typed max_labels) t None
 
 unfoldable pub one_more : TypingPosition → Option ℕ → TypingPosition
-one_more p none = record { slot = p.slot; walked = p.walked; typed = p.typed + 1 }
-one_more p (some t) = record { slot = t; walked = p.walked + 1; typed = p.typed + 1 }
+one_more p None = record { slot = p.slot; walked = p.walked; typed = p.typed + 1 }
+one_more p (Some t) = record { slot = t; walked = p.walked + 1; typed = p.typed + 1 }
 
 -- .. up to 255, after which the position stays.
 unfoldable pub max_typed : ℕ
@@ -77,7 +76,7 @@ back_of b p = let next = taken_back b p in moved_to b p next
 
 -- the place, if all labels typed reach it, or none
 unfoldable pub reached_slot : List ℕ → TypingPosition → Option ℕ
-reached_slot b p = cond (is_placed b p && all_walked p) (some p.slot) none
+reached_slot b p = cond (is_placed b p && all_walked p) (Some p.slot) None
 
 -- what a lookup would answer for the labels typed so far
 unfoldable pub position_lookup_of : List ℕ → TypingPosition → Lookup

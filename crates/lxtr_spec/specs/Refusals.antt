@@ -5,7 +5,6 @@ use Rattle.lxtr_spec.specs.Ranges.{any_below, count_below}
 use Rattle.lxtr_spec.specs.Numbers.{byte_at}
 use Rattle.lxtr_spec.specs.Labels.{is_scalar, length_count, min_slots, max_slots, max_listed}
 use Rattle.lxtr_spec.specs.Image.{header_length, magic, version, slot_count, child_count, map_length, image_length, base_word, check_word, is_leaf, has_leaf, parent, has_parent, base, code_to, offset, child, list_width, map_version, label_count, label_at}
-use Rattle.lxtr_spec.specs.declared.Verdict.{Verdict}
 
 -- A refusal is given exactly when its condition holds and no earlier one holds: refusal k if the fault is there, and otherwise what
 -- comes after it; 0 is no refusal.
@@ -205,5 +204,9 @@ unless_refused (suc k) answer other = other
 
 -- The check answers the number of pairs in the set of which the bytes are an image, or a refusal and 0. (Each pair has one end.)
 -- Bytes pass it, and an image is accepted, when it answers no refusal.
+pub record Verdict : Type 0 where
+  pub refusal : ℕ
+  pub pairs : ℕ
+
 unfoldable pub check_of : List ℕ → Verdict
 check_of b = let pairs = end_count b in record { refusal = image_refusal b; pairs = unless_refused (image_refusal b) pairs 0 }

@@ -1,14 +1,11 @@
 -- Document 01, "The searches", and document 02, request 6: lookup, prefixes and longest, for all bytes.
-use Rattle.std.specs.Prelude.{ℕ, ◌+◌, ◌*◌, ◌-◌, ◌%◌, List, [], ◌∷◌, ◌++◌, map, Bool, true, false, not, length, take, replicate, eqb}
-use Rattle.std.proofs.Math.Option.{Option, some, none}
+use Rattle.std.specs.Prelude.{ℕ, ◌+◌, ◌*◌, ◌-◌, ◌%◌, List, [], ◌∷◌, ◌++◌, map, Bool, true, false, not, length, take, replicate, eqb, Option, Some, None}
 use Rattle.lxtr_spec.specs.Ranges.{concat_from}
 use Rattle.lxtr_spec.specs.Labels.{max_labels, length_count, labels_of}
 use Rattle.lxtr_spec.specs.Refusals.{refuse_if, first_refusal, unless_refused, header_refusal}
 use Rattle.lxtr_spec.specs.Walks.{walk_within, value_at, value_of, longer_at}
 use Rattle.lxtr_spec.specs.declared.Case.{Case}
 use Rattle.lxtr_spec.specs.declared.Case.TheVariants.{Neither, PrefixOnly, ExactOnly, ExactAndPrefix}
-use Rattle.lxtr_spec.specs.declared.Lookup.{Lookup}
-use Rattle.lxtr_spec.specs.declared.Prefixes.{Prefixes}
 
 -- All first test 1 to 8, then give 13 if the query length is no multiple of four.
 unfoldable pub query_refusal : List ℕ → ℕ
@@ -23,10 +20,10 @@ search_refusal b q = first_refusal (header_refusal b) (query_refusal q)
 -- prefix, the last two with the value.
 -- (of each case, its value or none; ..
 unfoldable pub case_value : Case → Option ℕ
-case_value Neither = none
-case_value PrefixOnly = none
-case_value (ExactOnly v) = some v
-case_value (ExactAndPrefix v) = some v
+case_value Neither = None
+case_value PrefixOnly = None
+case_value (ExactOnly v) = Some v
+case_value (ExactAndPrefix v) = Some v
 
 -- .. whether longer keys exist; ..
 unfoldable pub case_longer : Case → Bool
@@ -37,15 +34,15 @@ case_longer (ExactAndPrefix v) = true
 
 -- .. and the case that has these two)
 unfoldable pub case_of : Option ℕ → Bool → Case
-case_of none false = Neither
-case_of none true = PrefixOnly
-case_of (some v) false = ExactOnly v
-case_of (some v) true = ExactAndPrefix v
+case_of None false = Neither
+case_of None true = PrefixOnly
+case_of (Some v) false = ExactOnly v
+case_of (Some v) true = ExactAndPrefix v
 
 -- Document 01, Probe: value or none, and whether longer keys exist. If the walk fails or the query passes 64 labels: none, no.
 unfoldable pub case_at : List ℕ → Option ℕ → Case
-case_at b none = Neither
-case_at b (some n) = case_of (value_at b n) (longer_at b n)
+case_at b None = Neither
+case_at b (Some n) = case_of (value_at b n) (longer_at b n)
 
 -- the case of the labels xs; beyond 64 labels, nothing; and its value
 unfoldable pub case_within : List ℕ → List ℕ → Case
@@ -55,6 +52,10 @@ unfoldable pub value_within : List ℕ → List ℕ → Option ℕ
 value_within b xs = case_value (case_within b xs)
 
 -- Refusals: 1 to 8 and 13 as before, beside the cases.
+pub record Lookup : Type 0 where
+  pub refusal : ℕ
+  pub case : Case
+
 unfoldable pub lookup_of : List ℕ → List ℕ → Lookup
 lookup_of b q =
     let case = case_within b (labels_of q) in
@@ -62,8 +63,8 @@ lookup_of b q =
 
 -- Prefixes: length and value, shortest first, of each prefix of xs to which f gives a value. match_at gives the match of length k, if any.
 unfoldable pub length_match : ℕ → Option ℕ → List (ℕ × ℕ)
-length_match k none = []
-length_match k (some v) = (k, v) ∷ []
+length_match k None = []
+length_match k (Some v) = (k, v) ∷ []
 
 unfoldable pub match_at : (List ℕ → Option ℕ) → List ℕ → ℕ → List (ℕ × ℕ)
 match_at f xs k = length_match k (f (take k xs))
@@ -84,6 +85,12 @@ match_length m = m.0
 
 abbrev pub match_value : ℕ × ℕ → ℕ
 match_value m = m.1
+
+pub record Prefixes : Type 0 where
+  pub refusal : ℕ
+  pub count : ℕ
+  pub lengths : List ℕ
+  pub values : List ℕ
 
 unfoldable pub prefixes_answer : ℕ → List (ℕ × ℕ) → Prefixes
 prefixes_answer k ms = record { refusal = k; count = length ms; lengths = padded (map match_length ms); values = padded (map match_value ms) }

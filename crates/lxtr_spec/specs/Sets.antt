@@ -1,6 +1,5 @@
 -- Document 01, "When bytes are an image of a set of pairs". These definitions do not use the refusals.
-use Rattle.std.specs.Prelude.{ℕ, ◌+◌, ◌*◌, ◌≤◌, ◌<◌, ◌≡◌, ◌≢◌, ◌↔◌, ◌⊎◌, List, [], ◌∷◌, ◌++◌, true, false, length}
-use Rattle.std.proofs.Math.Option.{Option, some, none}
+use Rattle.std.specs.Prelude.{ℕ, ◌+◌, ◌*◌, ◌≤◌, ◌<◌, ◌≡◌, ◌≢◌, ◌↔◌, ◌⊎◌, List, [], ◌∷◌, ◌++◌, true, false, length, Option, Some, None}
 use Rattle.lxtr_spec.specs.Numbers.{byte_at}
 use Rattle.lxtr_spec.specs.Labels.{is_scalar, max_labels, value_limit, min_slots, max_slots, max_listed}
 use Rattle.lxtr_spec.specs.Image.{magic, version, slot_count, child_count, map_length, image_length, base_word, check_word, is_leaf, has_leaf, parent, base, value_number, slot_from, code_to, offset, child, map_version, label_count, label_at, label_of_code}
@@ -12,7 +11,7 @@ PairSet = List ℕ → Option ℕ
 
 -- the set has the key k with the value number v
 abbrev pub Has : PairSet → List ℕ → ℕ → Type 0
-Has d k v = d k ≡ some v
+Has d k v = d k ≡ Some v
 
 -- each prefix of each key (the empty one always, and whole keys)
 pub record Prefix (d : PairSet) (p : List ℕ) : Type 0 where
@@ -71,7 +70,7 @@ pub record Placed (b : List ℕ) (d : PairSet) (slot end : List ℕ → ℕ) : T
   pub slot_parent : (p : List ℕ) (x : ℕ) → Prefix d (p ++ x ∷ []) → parent b (slot (p ++ x ∷ [])) ≡ slot p
   pub end_parent : (k : List ℕ) (v : ℕ) → Has d k v → parent b (end k) ≡ slot k
   -- If the set is empty, the base of slot 1 is 0.
-  pub empty_root : ((k : List ℕ) → d k ≡ none) → base b 1 ≡ 0
+  pub empty_root : ((k : List ℕ) → d k ≡ None) → base b 1 ≡ 0
   -- All other slots, slot 0 among them, hold two zero words.
   pub others : (s : ℕ) → s < slot_count b → ((p : List ℕ) → Prefix d p → slot p ≢ s) → ((k : List ℕ) (v : ℕ) → Has d k v → end k ≢ s)
       → (base_word b s ≡ 0) × (check_word b s ≡ 0)

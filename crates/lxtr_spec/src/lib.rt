@@ -1,8 +1,8 @@
-// The answer types, the limits and the refusal numbers. Their meaning is defined in specs/, which holds document 01, with requests 2,
-// 3, 5 and 6 of document 02, as definitions.
+// The refusals, the answer types and the limits. Their meaning is defined in specs/, which holds document 01, with requests 2, 3, 5 and
+// 6 of document 02, as definitions. An operation that may refuse answers a Result: the number of each refusal is in `refusals`.
 #![tactic(auto)]
 
-pub mod refusals; // the number of each refusal
+pub mod refusals; // the refusals and their numbers
 
 // The largest number of labels in a key, and the number of possible lengths that follows from it.
 pub const MAX_LABELS: usize = 64;
@@ -24,27 +24,9 @@ pub const BASE_COUNT: usize = 65536;
 // A typing position counts at most MAX_TYPED labels.
 pub const MAX_TYPED: u16 = 255;
 
-// A value number, a code or a slot; or none.
-#[derive(Clone, Copy)]
-pub enum Found {
-    Is(u32),
-    Nothing,
-}
-
-// In each answer below `refusal` is a number of `refusals`, or 0 for none.
-
-// The check: the number of pairs in the image's set.
-#[derive(Clone, Copy)]
-pub struct Verdict {
-    pub refusal: u8,
-    pub pairs: u32,
-}
-
 // Where a fault lies: the first place at which the rule of refusal 9, 10, 11 or 12 does not hold.
-#[derive(Clone, Copy)]
+#[derive(Clone, Copy, Debug, PartialEq, Eq)]
 pub enum Fault {
-    // accepted, or refused by 1 to 8
-    Nowhere,
     // 9: the label's place in the code map, from 0
     Label(u32),
     // 10: the slot
@@ -63,15 +45,8 @@ pub enum Fault {
     Unreachable(u32),
 }
 
-// The highest value number of the image's set, or none if it is empty.
-#[derive(Clone, Copy)]
-pub struct Highest {
-    pub refusal: u8,
-    pub value: Found,
-}
-
 // What a query is to the keys: the four cases of a lookup.
-#[derive(Clone, Copy)]
+#[derive(Clone, Copy, Debug, PartialEq, Eq)]
 pub enum Case {
     // nothing: neither a key nor the beginning of one
     Neither,
@@ -83,27 +58,16 @@ pub enum Case {
     ExactAndPrefix(u32),
 }
 
-// The lookup: the case, or Neither after a refusal.
-#[derive(Clone, Copy)]
-pub struct Lookup {
-    pub refusal: u8,
-    pub case: Case,
-}
-
-// The prefixes of a query that are keys, shortest first: `count` places of each array are filled, the others are zero.
-#[derive(Drop)]
-pub struct Prefixes {
-    pub refusal: u8,
-    pub count: u32,
-    pub lengths: [u32; LENGTH_COUNT],
-    pub values: [u32; LENGTH_COUNT],
+// A prefix of a query that is a key: its length in labels, and its value.
+#[derive(Clone, Copy, Debug, PartialEq, Eq)]
+pub struct Match {
+    pub length: u32,
+    pub value: u32,
 }
 
 // Why a query is found or not. A place counts the labels of the query from 0: it is the first at which the walk stops.
-#[derive(Clone, Copy)]
+#[derive(Clone, Copy, Debug, PartialEq, Eq)]
 pub enum Reason {
-    // refused
-    NoReason,
     // it has a value
     IsFound,
     // a label that isn't listed, at this place
@@ -116,24 +80,9 @@ pub enum Reason {
     TooLong,
 }
 
-// The reason, or NoReason after a refusal.
-#[derive(Clone, Copy)]
-pub struct Why {
-    pub refusal: u8,
-    pub reason: Reason,
-}
-
-// The completions: how many were written, and whether the listing stopped for lack of room.
-#[derive(Clone, Copy)]
-pub struct Completion {
-    pub refusal: u8,
+// The completions in lent room: how many were written, and whether the listing stopped for lack of room.
+#[derive(Clone, Copy, Debug, PartialEq, Eq)]
+pub struct Listing {
     pub count: u32,
     pub stopped: bool,
-}
-
-// The builder: the length of the image in bytes.
-#[derive(Clone, Copy)]
-pub struct Built {
-    pub refusal: u8,
-    pub length: u32,
 }

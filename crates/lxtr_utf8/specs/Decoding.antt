@@ -1,29 +1,28 @@
 -- The two loops over a text: one counts its labels, the other writes them; and what `decode` makes of them.
-use Rattle.std.specs.Prelude.{ℕ, suc, ◌+◌, ◌-◌, ◌*◌, ◌/◌, ◌≤◌, ◌<◌, refl, ◌≢◌, List, [], ◌∷◌, ◌++◌, take, get_or}
+use Rattle.std.specs.Prelude.{ℕ, suc, ◌+◌, ◌-◌, ◌*◌, ◌/◌, ◌≤◌, ◌<◌, refl, ◌≢◌, List, [], ◌∷◌, ◌++◌, take, get_or, Option, Some, None}
 use Rattle.std.proofs.Common.{arith, add-zero, zero-add, le_refl, add-one, ◌∙◌, Fits, drop-drop, drop-cons, take_all}
 use Rattle.std.proofs.Math.Path.{◌≡◌, sym, ap}
-use Rattle.std.proofs.Math.Option.{Option, some, none}
 use borrow.Author.Tests.{lt-ltb, le-ltb}
 use Rattle.std.specs.Int.{w64}
 use Rattle.std.proofs.Math.ListN.{length, drop, length-drop}
 use Rattle.lxtr_spec.specs.Numbers.{be_bytes, be_words}
 use Rattle.lxtr_laws.specs.ByteOrders.{big, words_size}
 use Rattle.lxtr_laws.specs.Overlays.{over, over_length, WordsIn, words_start, words_next}
-use Rattle.lxtr_command_spec.specs.declared.Decoded.{Decoded}
+use Rattle.lxtr_command_spec.specs.Utf8.{Decoded}
 use Rattle.lxtr_command_spec.specs.Utf8.{option_cons, labels_of_text, counted, count_of, DecodingAnswer, decoding, decoding_of}
 use Rattle.lxtr_utf8.specs.Fronts.{FrontOf}
 use Rattle.lxtr_utf8.specs.Texts.{cons_some, labels_end, labels_stop, labels_next, front_within}
 
 -- the labels of a text; none if it is not UTF-8
 unfoldable pub or_empty : Option (List ℕ) → List ℕ
-or_empty none = []
-or_empty (some xs) = xs
+or_empty None = []
+or_empty (Some xs) = xs
 
 unfoldable pub labels_in : List ℕ → List ℕ
 labels_in t = or_empty (labels_of_text t)
 
 abbrev pub IsText : List ℕ → Type 0
-IsText t = labels_of_text t ≡ some (labels_in t)
+IsText t = labels_of_text t ≡ Some (labels_in t)
 
 -- what is left of a text, starting at a place, as the code lends it
 abbrev pub from : List ℕ → ℕ → List ℕ
@@ -36,7 +35,7 @@ module _ (t : List ℕ) (at x len : ℕ) (more : at < length t) (part : FrontOf 
   still : 1 ≤ length (drop at t)
   still = omega (arith, length-drop at t)
 
-  from_stop : len ≡ 0 → labels_of_text (drop at t) ≡ none
+  from_stop : len ≡ 0 → labels_of_text (drop at t) ≡ None
   from_stop z = labels_stop (drop at t) still x len front z
 
   from_next : len ≢ 0 → labels_of_text (drop at t) ≡ option_cons x (labels_of_text (drop (at + len) t))
@@ -55,18 +54,18 @@ module _ (t : List ℕ) (at x len : ℕ) (more : at < length t) (part : FrontOf 
 
 -- n labels, and those of the rest
 unfoldable pub counted_after : ℕ → Option (List ℕ) → Decoded
-counted_after n none = record { problem = 1; count = 0 }
-counted_after n (some xs) = record { problem = 0; count = n + length xs }
+counted_after n None = record { problem = 1; count = 0 }
+counted_after n (Some xs) = record { problem = 0; count = n + length xs }
 
 after_none : (o : Option (List ℕ)) → counted o ≡ counted_after 0 o
 unfolding counted counted_after
-after_none none = refl
-after_none (some xs) = rw zero-add
+after_none None = refl
+after_none (Some xs) = rw zero-add
 
 after_one : (n x : ℕ) (o : Option (List ℕ)) → counted_after n (option_cons x o) ≡ counted_after (n + 1) o
 unfolding counted_after option_cons
-after_one n x none = refl
-after_one n x (some xs) = let e : n + suc (length xs) ≡ n + 1 + length xs = omega arith in ap (λ (k : ℕ). record { problem = 0; count = k }) e
+after_one n x None = refl
+after_one n x (Some xs) = let e : n + suc (length xs) ≡ n + 1 + length xs = omega arith in ap (λ (k : ℕ). record { problem = 0; count = k }) e
 
 pub record CountSoFar (t : List ℕ) (at n : ℕ) : Type 0 where
   pub to : at ≤ length t
@@ -107,7 +106,7 @@ cons_place xs i x ys e =
 pub record LabelsPut (t room : List ℕ) (at i : ℕ) (room' : List ℕ) : Type 0 where
   pub to : at ≤ length t
   pub few : i ≤ length (labels_in t)
-  pub left : labels_of_text (drop at t) ≡ some (drop i (labels_in t))
+  pub left : labels_of_text (drop at t) ≡ Some (drop i (labels_in t))
   pub size : length room' ≡ length room
   pub put : WordsIn be_words room (labels_in t) 0 i room'
 
@@ -121,12 +120,12 @@ module _ (t room : List ℕ) (text : IsText t) where
       pub put_some : len ≢ 0
       put_some z = let e = sym (from_stop t at x len more part z) ∙ before.left in let w : ◌≡◌ {A = ℕ} 0 1 = cc in omega arith
 
-      next : (i < length (labels_in t)) × (x ≡ get_or (labels_in t) i 0) × (labels_of_text (drop (at + len) t) ≡ some (drop (i + 1) (labels_in t)))
+      next : (i < length (labels_in t)) × (x ≡ get_or (labels_in t) i 0) × (labels_of_text (drop (at + len) t) ≡ Some (drop (i + 1) (labels_in t)))
       next =
           let o = labels_of_text (drop (at + len) t) in
           let (ys, e, f) = cons_some x o (drop i (labels_in t)) (sym (from_next t at x len more part put_some) ∙ before.left) in
           let (h, is, rest) = cons_place (labels_in t) i x ys f in
-          (h, is, e ∙ ap {B = Option (List ℕ)} some rest)
+          (h, is, e ∙ ap {B = Option (List ℕ)} Some rest)
 
       pub put_less : length t - (at + len) < length t - at
       put_less = from_less t at x len more part put_some
@@ -162,14 +161,14 @@ module _ (t room : List ℕ) (d : Decoded) (counts : d ≡ count_of t) where
   decode_problem p = go (labels_of_text t) counts
     where
       go : (o : Option (List ℕ)) → d ≡ counted o → ◌≡◌ {A = DecodingAnswer} (record { answer = d; room = room }) (decoding room o)
-      go none e = ap {B = DecodingAnswer} (λ (a : Decoded). record { answer = a; room = room }) e
-      go (some xs) e = absurd (p (ap (λ (a : Decoded). a.problem) e))
+      go None e = ap {B = DecodingAnswer} (λ (a : Decoded). record { answer = a; room = room }) e
+      go (Some xs) e = absurd (p (ap (λ (a : Decoded). a.problem) e))
 
   module _ (fine : d.problem ≡ 0) where
-    read : (o : Option (List ℕ)) → d ≡ counted o → (o ≡ some (or_empty o)) × (d ≡ record { problem = 0; count = length (or_empty o) })
+    read : (o : Option (List ℕ)) → d ≡ counted o → (o ≡ Some (or_empty o)) × (d ≡ record { problem = 0; count = length (or_empty o) })
     unfolding counted or_empty
-    read none e = absurd (omega (arith, ap (λ (a : Decoded). a.problem) e))
-    read (some xs) e = (refl, e)
+    read None e = absurd (omega (arith, ap (λ (a : Decoded). a.problem) e))
+    read (Some xs) e = (refl, e)
 
     pub decode_text : IsText t
     unfolding count_of labels_in

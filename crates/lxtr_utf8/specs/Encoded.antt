@@ -1,9 +1,8 @@
 -- The text of a text's labels is that text, and scalar values are the labels of their text: so the sentences of RFC 3629 hold.
-use Rattle.std.specs.Prelude.{ℕ, zero, suc, ◌+◌, ◌*◌, ◌/◌, ◌%◌, ◌≤◌, ◌<◌, ◌≡◌, refl, List, [], ◌∷◌, ◌++◌, Bool, true, false, length, drop}
+use Rattle.std.specs.Prelude.{ℕ, zero, suc, ◌+◌, ◌*◌, ◌/◌, ◌%◌, ◌≤◌, ◌<◌, ◌≡◌, refl, List, [], ◌∷◌, ◌++◌, Bool, true, false, length, drop, Option, Some, None}
 use Rattle.std.proofs.Common.{arith, div-add-mod', le_refl, sym, ap, ◌∙◌, ⊎_elim, eq-eqb, length-append, length-drop}
 use Rattle.std.proofs.Math.Decide.{dec_lt}
 use mathlib.Core.List.Memᴰ
-use Rattle.std.proofs.Math.Option.{Option, some, none}
 use Rattle.std.proofs.Math.Seq.{drop-append_seam}
 use Rattle.lxtr_spec.specs.Labels.{is_scalar, comes_before}
 use Rattle.lxtr_laws.specs.Tests.{and_is_true}
@@ -16,10 +15,10 @@ use Rattle.lxtr_utf8.specs.Rfc3629.{Rfc3629}
 
 -- ---- the labels of a text
 
-some_same : (xs ys : List ℕ) → ◌≡◌ {A = Option (List ℕ)} (some xs) (some ys) → xs ≡ ys
+some_same : (xs ys : List ℕ) → ◌≡◌ {A = Option (List ℕ)} (Some xs) (Some ys) → xs ≡ ys
 some_same xs ys e = cc
 
-none_some : (xs : List ℕ) → ◌≡◌ {A = Option (List ℕ)} none (some xs) → ⊥
+none_some : (xs : List ℕ) → ◌≡◌ {A = Option (List ℕ)} None (Some xs) → ⊥
 none_some xs e = let z : ◌≡◌ {A = ℕ} 0 1 = cc in omega arith
 
 empty : (t : List ℕ) → length t ≡ 0 → t ≡ []
@@ -33,18 +32,18 @@ right : (t : List ℕ) → begins_right t ≡ true → (is_scalar (front_number 
 unfolding begins_right
 right t e = (and_is_true (is_scalar (front_number t)) (begins_with t (utf8 (front_number t)))).0 e
 
-read_none : (t xs : List ℕ) → length t ≡ 0 → labels_of_text t ≡ some xs → Scalars xs × (text_of xs ≡ t)
+read_none : (t xs : List ℕ) → length t ≡ 0 → labels_of_text t ≡ Some xs → Scalars xs × (text_of xs ≡ t)
 unfolding text_of
 read_none t xs z e =
     let f : [] ≡ xs = some_same [] xs (sym (labels_end t z) ∙ e) in
     (λ x m. absurd (Memᴰ.not-nil (rw (sym f) at m)), rw (sym f) (sym (empty t z)))
 
-read : (k : ℕ) (t xs : List ℕ) → length t ≤ k → labels_of_text t ≡ some xs → Scalars xs × (text_of xs ≡ t)
+read : (k : ℕ) (t xs : List ℕ) → length t ≤ k → labels_of_text t ≡ Some xs → Scalars xs × (text_of xs ≡ t)
 unfolding text_of
 read zero t xs h e = read_none t xs (omega arith) e
 read (suc k) t xs h e = go (read k) (dec_lt 0 (length t)) (begins_right t) refl
   where
-    go : ((u ys : List ℕ) → length u ≤ k → labels_of_text u ≡ some ys → Scalars ys × (text_of ys ≡ u)) → Dec (0 < length t) → (a : Bool) → begins_right t ≡ a → Scalars xs × (text_of xs ≡ t)
+    go : ((u ys : List ℕ) → length u ≤ k → labels_of_text u ≡ Some ys → Scalars ys × (text_of ys ≡ u)) → Dec (0 < length t) → (a : Bool) → begins_right t ≡ a → Scalars xs × (text_of xs ≡ t)
     go ih (no n) a r = read_none t xs (omega arith) e
     go ih (yes p) false r = absurd (none_some xs (sym (labels_wrong_lem t p r) ∙ e))
     go ih (yes p) true r =
@@ -105,12 +104,12 @@ front_right : (x : ℕ) (s : List ℕ) → is_scalar x ≡ true → begins_right
 unfolding begins_right
 front_right x s e = rw (number_back x s (scalar_small x e), e, begins_append (utf8 x) s)
 
-encoded : (xs : List ℕ) → Scalars xs → labels_of_text (text_of xs) ≡ some xs
+encoded : (xs : List ℕ) → Scalars xs → labels_of_text (text_of xs) ≡ Some xs
 unfolding text_of option_cons
 encoded [] scalars = labels_end [] refl
 encoded (x ∷ xs) scalars = go (encoded xs (λ y m. scalars y (Memᴰ.tail m))) (scalars x (Memᴰ.head refl))
   where
-    go : labels_of_text (text_of xs) ≡ some xs → is_scalar x ≡ true → labels_of_text (utf8 x ++ text_of xs) ≡ some (x ∷ xs)
+    go : labels_of_text (text_of xs) ≡ Some xs → is_scalar x ≡ true → labels_of_text (utf8 x ++ text_of xs) ≡ Some (x ∷ xs)
     go ih e =
         let b = some_bytes x in
         let l = length-append (utf8 x) (text_of xs) in
@@ -119,13 +118,13 @@ encoded (x ∷ xs) scalars = go (encoded xs (λ y m. scalars y (Memᴰ.tail m)))
 
 -- ---- RFC 3629
 
-pub text_of_lem : (t xs : List ℕ) → labels_of_text t ≡ some xs → text_of xs ≡ t
+pub text_of_lem : (t xs : List ℕ) → labels_of_text t ≡ Some xs → text_of xs ≡ t
 text_of_lem t xs e = (read (length t) t xs (le_refl (length t)) e).1
 
-pub labels_scalar : (t xs : List ℕ) → labels_of_text t ≡ some xs → Scalars xs
+pub labels_scalar : (t xs : List ℕ) → labels_of_text t ≡ Some xs → Scalars xs
 labels_scalar t xs e = (read (length t) t xs (le_refl (length t)) e).0
 
-pub order_of_texts : (t u xs ys : List ℕ) → labels_of_text t ≡ some xs → labels_of_text u ≡ some ys → comes_before xs ys ≡ comes_before t u
+pub order_of_texts : (t u xs ys : List ℕ) → labels_of_text t ≡ Some xs → labels_of_text u ≡ Some ys → comes_before xs ys ≡ comes_before t u
 order_of_texts t u xs ys e f = rw (sym (text_of_lem t xs e), sym (text_of_lem u ys f)) (order_of_labels xs ys)
 
 pub rfc3629 : (t : List ℕ) → Rfc3629 t

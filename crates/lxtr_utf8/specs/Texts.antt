@@ -3,9 +3,8 @@ use Prim.Native.Nat.{ℕ, zero, suc, ◌-◌, ◌≤◌, ◌<◌}
 use native.Mathlib.Omega.{arith}
 use Rattle.std.proofs.Math.Decide.{dec_lt}
 use Rattle.std.proofs.Common.{le_refl, sym, ◌∙◌, ne_eqb, eqb-true, length-append}
-use Rattle.std.specs.Prelude.{◌≡◌, ◌≢◌, List, [], ◌∷◌, ◌++◌, Bool, eqb}
+use Rattle.std.specs.Prelude.{◌≡◌, ◌≢◌, List, [], ◌∷◌, ◌++◌, Bool, eqb, Option, Some, None}
 use Rattle.std.proofs.Math.Path.{refl, ap}
-use Rattle.std.proofs.Math.Option.{Option, some, none}
 use Rattle.std.proofs.Math.Bool.{true, false}
 use Rattle.std.proofs.lemmas.Bool.{false≢true}
 use Rattle.std.proofs.Math.ListN.{length, drop, length-drop}
@@ -44,11 +43,11 @@ module _ (k : ℕ) (t : List ℕ) (more : 1 ≤ length t) where
   unfolding labels_within
   within_some e = rw (ne_eqb (length t) 0 (λ z. omega arith), labels_within, e)
 
-  within_none : begins_right t ≡ false → labels_within (suc k) t ≡ none
+  within_none : begins_right t ≡ false → labels_within (suc k) t ≡ None
   unfolding labels_within
   within_none e = rw (ne_eqb (length t) 0 (λ z. omega arith), labels_within, e)
 
-within_end : (k : ℕ) (t : List ℕ) → length t ≡ 0 → labels_within k t ≡ some []
+within_end : (k : ℕ) (t : List ℕ) → length t ≡ 0 → labels_within k t ≡ Some []
 unfolding labels_within
 within_end zero t z = rw (z, labels_within)
 within_end (suc k) t z = rw (z, labels_within)
@@ -72,12 +71,12 @@ within_same (suc k) (suc m) t h l = go (within_same k m) (dec_lt 0 (length t)) (
 
 -- ---- the labels of a text
 
-pub cons_some : (x : ℕ) (o : Option (List ℕ)) (xs : List ℕ) → option_cons x o ≡ some xs → (ys : List ℕ) × (o ≡ some ys) × (xs ≡ x ∷ ys)
+pub cons_some : (x : ℕ) (o : Option (List ℕ)) (xs : List ℕ) → option_cons x o ≡ Some xs → (ys : List ℕ) × (o ≡ Some ys) × (xs ≡ x ∷ ys)
 unfolding option_cons
-cons_some x none xs e = absurd (let z : ◌≡◌ {A = ℕ} 0 1 = cc in omega arith)
-cons_some x (some ys) xs e = (ys, refl, cc)
+cons_some x None xs e = absurd (let z : ◌≡◌ {A = ℕ} 0 1 = cc in omega arith)
+cons_some x (Some ys) xs e = (ys, refl, cc)
 
-pub labels_end : (t : List ℕ) → length t ≡ 0 → labels_of_text t ≡ some []
+pub labels_end : (t : List ℕ) → length t ≡ 0 → labels_of_text t ≡ Some []
 unfolding labels_of_text
 labels_end t e = within_end (length t) t e
 
@@ -92,17 +91,17 @@ module _ (t : List ℕ) (more : 1 ≤ length t) where
       let k : length t ≡ suc (length t - 1) = omega arith in
       ap (λ (n : ℕ). labels_within n t) k ∙ within_some (length t - 1) t more e ∙ ap (option_cons x) (within_same (length t - 1) (length u) u (omega arith) (le_refl (length u)))
 
-  pub labels_wrong_lem : begins_right t ≡ false → labels_of_text t ≡ none
+  pub labels_wrong_lem : begins_right t ≡ false → labels_of_text t ≡ None
   unfolding labels_of_text
   labels_wrong_lem e = let k : length t ≡ suc (length t - 1) = omega arith in ap (λ (n : ℕ). labels_within n t) k ∙ within_none (length t - 1) t more e
 
   -- the same, for the first character
   module _ (x n : ℕ) (front : FrontOf t x n) where
-    pub labels_stop : n ≡ 0 → labels_of_text t ≡ none
+    pub labels_stop : n ≡ 0 → labels_of_text t ≡ None
     unfolding front_length
     labels_stop z = go (begins_right t) refl
       where
-        go : (a : Bool) → begins_right t ≡ a → labels_of_text t ≡ none
+        go : (a : Bool) → begins_right t ≡ a → labels_of_text t ≡ None
         go false e = labels_wrong_lem e
         go true e = let s : n ≡ length (utf8 (front_number t)) = front.size ∙ rw e refl in let b = some_bytes (front_number t) in absurd (omega arith)
 

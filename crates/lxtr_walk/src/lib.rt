@@ -8,7 +8,6 @@ ghost use Rattle.lxtr_spec.specs.Labels.{labels_of};
 ghost use Rattle.lxtr_spec.specs.Image.{slot_count};
 ghost use Rattle.lxtr_spec.specs.Walks.{step, step_by, walk, walk_within, value_at, longer_at};
 ghost use Rattle.lxtr_spec.specs.Searches.{search_refusal};
-ghost use Rattle.lxtr_spec.specs.Answers.{found};
 ghost use Rattle.lxtr_laws.specs.Passed.{Passed};
 
 use lxtr_bytes::labels::{label_at, label_count};
@@ -18,7 +17,7 @@ use lxtr_image::joining::slot_from;
 use lxtr_image::lists::list_width;
 use lxtr_image::nodes::{has_leaf, has_parent, is_leaf, value_number};
 use lxtr_spec::refusals::WRONG_QUERY_LENGTH;
-use lxtr_spec::{Found, MAX_LABELS};
+use lxtr_spec::{MAX_LABELS};
 
 // The first of refusals 1 to 8 of the image, then 13 of the query, that holds; or 0.
 pub fn search_refusal(image: &[u8], query: &[u8]) -> u8
@@ -38,55 +37,55 @@ pub fn search_refusal(image: &[u8], query: &[u8]) -> u8
 pub fn step(image: &[u8], n: u32, code: u32) -> Found
     requires passed { Passed image.now }
     requires n_bound { n < slot_count image.now }
-    ensures { found result ≡ step image.now n code }
+    ensures { result ≡ step image.now n code }
 {
     if is_leaf(image, n) {
-        return Found::Nothing;
+        return None;
     }
     let t = slot_from(image, n, code);
     if !has_parent(image, t, n) {
-        return Found::Nothing;
+        return None;
     }
-    Found::Is(t)
+    Some(t)
 }
 
 // The step from slot n by a label. A label that isn't listed stops the walk.
 pub fn step_by(image: &[u8], n: u32, label: u32) -> Found
     requires passed { Passed image.now }
     requires n_bound { n < slot_count image.now }
-    ensures { found result ≡ step_by image.now n label }
+    ensures { result ≡ step_by image.now n label }
 {
     match code_of(image, label) {
-        Found::Is(code) => step(image, n, code),
-        Found::Nothing => Found::Nothing,
+        Some(code) => step(image, n, code),
+        None => None,
     }
 }
 
 // The slot that the labels of a query reach from slot 1.
 fn walk(image: &[u8], query: &[u8]) -> Found
     requires { Passed image.now }
-    ensures { found result ≡ walk image.now 1 (labels_of query.now) }
+    ensures { result ≡ walk image.now 1 (labels_of query.now) }
 {
     let count = label_count(query);
     let mut n: u32 = 1;
     let mut i: usize = 0;
     while i < count {
-        let Found::Is(t) = step_by(image, n, label_at(query, i)) else {
-            return Found::Nothing;
+        let Some(t) = step_by(image, n, label_at(query, i)) else {
+            return None;
         };
         n = t;
         i += 1;
     }
-    Found::Is(n)
+    Some(n)
 }
 
 // The same, but nothing for a query of more than MAX_LABELS labels.
 pub fn walk_within(image: &[u8], query: &[u8]) -> Found
     requires { Passed image.now }
-    ensures { found result ≡ walk_within image.now (labels_of query.now) }
+    ensures { result ≡ walk_within image.now (labels_of query.now) }
 {
     if MAX_LABELS < label_count(query) {
-        return Found::Nothing;
+        return None;
     }
     walk(image, query)
 }
@@ -95,18 +94,18 @@ pub fn walk_within(image: &[u8], query: &[u8]) -> Found
 pub fn value_at(image: &[u8], n: u32) -> Found
     requires passed { Passed image.now }
     requires n_bound { n < slot_count image.now }
-    ensures { found result ≡ value_at image.now n }
+    ensures { result ≡ value_at image.now n }
 {
     if !has_leaf(image, n) {
-        return Found::Nothing;
+        return None;
     }
-    let Found::Is(t) = step(image, n, 0) else {
-        return Found::Nothing;
+    let Some(t) = step(image, n, 0) else {
+        return None;
     };
     if !is_leaf(image, t) {
-        return Found::Nothing;
+        return None;
     }
-    Found::Is(value_number(image, t))
+    Some(value_number(image, t))
 }
 
 // Whether longer keys exist at slot n: the width of its list is above 1 with HAS_LEAF set, above 0 without.

@@ -11,7 +11,7 @@ ghost use Rattle.lxtr_laws.specs.Passed.{Passed};
 
 use lxtr_bytes::labels::{label_at, label_count};
 use lxtr_image::code_map::code_of;
-use lxtr_spec::{Found, MAX_LABELS, Reason, Why};
+use lxtr_spec::{MAX_LABELS, Reason, Why};
 use lxtr_walk::{search_refusal, step_by, value_at};
 
 // Why a walk stopped at a label, whose place in the query is i: it isn't listed, or it has no step.
@@ -20,8 +20,8 @@ fn stopped_at(image: &[u8], i: u32, label: u32) -> Reason
     ensures { result ≡ stopped_at image.now i label }
 {
     match code_of(image, label) {
-        Found::Is(_) => Reason::NoStep(i),
-        Found::Nothing => Reason::NotListed(i),
+        Some(_) => Reason::NoStep(i),
+        None => Reason::NotListed(i),
     }
 }
 
@@ -32,8 +32,8 @@ fn ended_at(image: &[u8], n: u32) -> Reason
     ensures { result ≡ ended_with (value_at image.now n) }
 {
     match value_at(image, n) {
-        Found::Is(_) => Reason::IsFound,
-        Found::Nothing => Reason::NoKeyEnds,
+        Some(_) => Reason::IsFound,
+        None => Reason::NoKeyEnds,
     }
 }
 
@@ -51,7 +51,7 @@ fn reason(image: &[u8], query: &[u8]) -> Reason
     let mut i: u32 = 0;
     while (i as usize) < count {
         let label = label_at(query, i as usize);
-        let Found::Is(t) = step_by(image, n, label) else {
+        let Some(t) = step_by(image, n, label) else {
             return stopped_at(image, i, label);
         };
         n = t;

@@ -12,7 +12,7 @@ use Rattle.lxtr_laws.specs.ByteOrders.{big, words_size}
 use Rattle.lxtr_laws.specs.Limit.{length_fits_byte}
 use Rattle.lxtr_laws.specs.Members.{member_at}
 use Rattle.lxtr_laws.specs.Overlays.{over, over_length, over_none, over_set, over_over, over_comm}
-use Rattle.lxtr_command_spec.specs.declared.Decoded.{Decoded}
+use Rattle.lxtr_command_spec.specs.Utf8.{Decoded}
 use Rattle.lxtr_command_spec.specs.Utf8.{count_of, DecodingAnswer, decoding, decoding_of}
 use Rattle.lxtr_words.specs.TextLines.{word_at}
 use Rattle.lxtr_words.specs.WordTables.{key_of, keys_of, WordRight, Table, key_is, key_short, key_count_lem, keys_length, keys_at_lem}

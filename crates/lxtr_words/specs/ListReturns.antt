@@ -1,12 +1,11 @@
 -- The answer, put together from the outcomes of its parts.
-use Rattle.std.specs.Prelude.{ℕ, ◌≤◌, ◌<◌, ◌≡◌, refl, ◌≢◌, List, ◌++◌, Bool, true, false, ltb, length, take, drop}
+use Rattle.std.specs.Prelude.{ℕ, ◌≤◌, ◌<◌, ◌≡◌, refl, ◌≢◌, List, ◌++◌, Bool, true, false, ltb, length, take, drop, Option, Some, None}
 use Rattle.std.proofs.Common.{sym, ◌∙◌, zero-add, arith, lt-ltb, le-ltb, length-take-le}
 use Rattle.std.proofs.Math.Path.{ap, ap₂}
-use Rattle.std.proofs.Math.Option.{Option, some, none}
 use Rattle.lxtr_spec.specs.KeyLists.{max_keys}
 use Rattle.lxtr_spec.specs.Samples.{key_list}
 use Rattle.lxtr_laws.specs.Overlays.{over}
-use Rattle.lxtr_command_spec.specs.declared.Keyed.{Keyed}
+use Rattle.lxtr_command_spec.specs.WordLists.{Keyed}
 use Rattle.lxtr_command_spec.specs.WordLists.{lines_of, first_problem, keys_of_text, KeyedAnswer, refused_words, keyed, keyed_lines, keyed_of}
 use Rattle.lxtr_words.specs.Problems.{problem_answer, none_right}
 use Rattle.lxtr_words.specs.WordTables.{keys_of, LinesRight, keys_length}
@@ -72,8 +71,8 @@ module _ (t a : List ℕ) (n : ℕ) (g : Gathered t a n) (out : List ℕ) where
 
 told : (p : Option (ℕ × ℕ)) (found : Keyed) (ks : List (List ℕ)) (out : List ℕ) → found ≡ problem_answer p → found.problem ≢ 0 → record { answer = found; output = out } ≡ keyed_lines p ks out
 unfolding problem_answer keyed_lines refused_words
-told none found ks out d h = absurd (h (ap (λ (k : Keyed). k.problem) d))
-told (some p) found ks out d h = rw d refl
+told None found ks out d h = absurd (h (ap (λ (k : Keyed). k.problem) d))
+told (Some p) found ks out d h = rw d refl
 
 module _ (t : List ℕ) (found : Keyed) (e : found ≡ problem_answer (first_problem 1 (lines_of t))) where
   pub problem_found : (out : List ℕ) → found.problem ≢ 0 → record { answer = found; output = out } ≡ keyed_of t out
@@ -81,7 +80,7 @@ module _ (t : List ℕ) (found : Keyed) (e : found ≡ problem_answer (first_pro
   problem_found out h = told (first_problem 1 (lines_of t)) found (keys_of_text t) out e h
 
   module _ (z : found.problem ≡ 0) where
-    none_found : LinesRight (lines_of t) × (first_problem 1 (lines_of t) ≡ none)
+    none_found : LinesRight (lines_of t) × (first_problem 1 (lines_of t) ≡ None)
     none_found = none_right 1 (lines_of t) (ap (λ (k : Keyed). k.problem) (sym e) ∙ z)
 
     pub lines_right : LinesRight (lines_of t)

@@ -1,13 +1,12 @@
 -- The first line that makes no word.
 use Prim.Native.Nat.{ℕ, zero, suc, ◌+◌, ◌≤◌, ◌<◌}
-use Rattle.std.specs.Prelude.{◌≡◌, refl, ◌≢◌, cond, List, [], ◌∷◌, ltb, eqb, length}
+use Rattle.std.specs.Prelude.{◌≡◌, refl, ◌≢◌, cond, List, [], ◌∷◌, ltb, eqb, length, Option, Some, None}
 use Rattle.std.proofs.Math.Path.{sym, ap}
 use Rattle.std.proofs.Common.{◌∙◌, arith}
-use Rattle.std.proofs.Math.Option.{Option, some, none}
 use borrow.Author.Tests.{lt-ltb, le-ltb, eq-eqb, ne_eqb}
 use Rattle.lxtr_spec.specs.Labels.{max_labels}
-use Rattle.lxtr_command_spec.specs.declared.Decoded.{Decoded}
-use Rattle.lxtr_command_spec.specs.declared.Keyed.{Keyed}
+use Rattle.lxtr_command_spec.specs.Utf8.{Decoded}
+use Rattle.lxtr_command_spec.specs.WordLists.{Keyed}
 use Rattle.lxtr_command_spec.specs.Utf8.{labels_of_text, counted, count_of}
 use Rattle.lxtr_command_spec.specs.WordLists.{lines_of, word_of, labels_problem, word_problem, first_problem}
 use Rattle.lxtr_words.specs.TextLines.{line_at, line_end, word_at, lines_left, LineTo, left_all, left_more, left_none}
@@ -15,8 +14,8 @@ use Rattle.lxtr_words.specs.WordTables.{LinesRight}
 
 -- the answer for the first problem, with its line
 unfoldable pub problem_answer : Option (ℕ × ℕ) → Keyed
-problem_answer none = record { problem = 0; line = 0; count = 0; length = 0 }
-problem_answer (some p) = record { problem = p.0; line = p.1; count = 0; length = 0 }
+problem_answer None = record { problem = 0; line = 0; count = 0; length = 0 }
+problem_answer (Some p) = record { problem = p.0; line = p.1; count = 0; length = 0 }
 
 -- ---- one word, whose labels were counted
 
@@ -26,8 +25,8 @@ by_count d = cond (eqb d.problem 0) (cond (ltb max_labels d.count) 2 0) 1
 
 counted_problem : (o : Option (List ℕ)) → labels_problem o ≡ by_count (counted o)
 unfolding labels_problem counted by_count
-counted_problem none = refl
-counted_problem (some xs) = refl
+counted_problem None = refl
+counted_problem (Some xs) = refl
 
 module _ (w : List ℕ) (d : Decoded) (e : d ≡ count_of w) where
   by : word_problem w ≡ by_count d
@@ -51,13 +50,13 @@ module _ (w : List ℕ) (d : Decoded) (e : d ≡ count_of w) where
 
 module _ (n : ℕ) (l : List ℕ) (ls : List (List ℕ)) where
   abbrev step : ℕ → Option (ℕ × ℕ)
-  step r = elim r as (λ _. Option (ℕ × ℕ)) [ zero ↦ first_problem (n + 1) ls | suc k ↦ some (suc k, n) ]
+  step r = elim r as (λ _. Option (ℕ × ℕ)) [ zero ↦ first_problem (n + 1) ls | suc k ↦ Some (suc k, n) ]
 
   first_none : word_problem (word_of l) ≡ 0 → first_problem n (l ∷ ls) ≡ first_problem (n + 1) ls
   unfolding first_problem
   first_none e = ap step e
 
-  first_some : (r : ℕ) → word_problem (word_of l) ≡ r → r ≢ 0 → first_problem n (l ∷ ls) ≡ some (r, n)
+  first_some : (r : ℕ) → word_problem (word_of l) ≡ r → r ≢ 0 → first_problem n (l ∷ ls) ≡ Some (r, n)
   unfolding first_problem
   first_some zero e h = absurd (h refl)
   first_some (suc k) e h = ap step e
@@ -95,16 +94,16 @@ module _ (t : List ℕ) (line at : ℕ) (g : NoneBefore t line at) where
   unfolding problem_answer first_problem
   problem_none h = sym (ap problem_answer (g.left ∙ ap (first_problem line) (left_none t at h)))
 
-not_zero : (n r : ℕ) → (problem_answer (some (suc r, n))).problem ≡ 0 → ⊥
+not_zero : (n r : ℕ) → (problem_answer (Some (suc r, n))).problem ≡ 0 → ⊥
 unfolding problem_answer
 not_zero n r e = omega arith
 
 -- if there is no first problem, no line has one
-pub none_right : (n : ℕ) (ls : List (List ℕ)) → (problem_answer (first_problem n ls)).problem ≡ 0 → LinesRight ls × (first_problem n ls ≡ none)
+pub none_right : (n : ℕ) (ls : List (List ℕ)) → (problem_answer (first_problem n ls)).problem ≡ 0 → LinesRight ls × (first_problem n ls ≡ None)
 unfolding first_problem LinesRight
 none_right n [] e = (tt, refl)
 none_right n (l ∷ ls) e = go (word_problem (word_of l)) refl (none_right (n + 1) ls)
   where
-    go : (r : ℕ) → word_problem (word_of l) ≡ r → ((problem_answer (first_problem (n + 1) ls)).problem ≡ 0 → LinesRight ls × (first_problem (n + 1) ls ≡ none)) → ((word_problem (word_of l) ≡ 0) × LinesRight ls) × (first_problem n (l ∷ ls) ≡ none)
+    go : (r : ℕ) → word_problem (word_of l) ≡ r → ((problem_answer (first_problem (n + 1) ls)).problem ≡ 0 → LinesRight ls × (first_problem (n + 1) ls ≡ None)) → ((word_problem (word_of l) ≡ 0) × LinesRight ls) × (first_problem n (l ∷ ls) ≡ None)
     go zero d ih = let k = ih (ap (λ (o : Option (ℕ × ℕ)). (problem_answer o).problem) (sym (first_none n l ls d)) ∙ e) in ((d, k.0), first_none n l ls d ∙ k.1)
     go (suc r) d ih = absurd (not_zero n r (ap (λ (o : Option (ℕ × ℕ)). (problem_answer o).problem) (sym (first_some n l ls (suc r) d (λ z. omega arith))) ∙ e))

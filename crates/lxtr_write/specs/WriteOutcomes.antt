@@ -4,7 +4,7 @@ use Rattle.std.proofs.Common.{zero-add, arith, ◌∙◌, lt-ltb, le-ltb}
 use Rattle.std.proofs.Math.Path.{refl, ap}
 use Rattle.std.proofs.Math.ListN.{drop}
 use Rattle.lxtr_spec.specs.Builds.{image_in, slots_used, slots_in, Outcome, refuses, with_room, answered}
-use Rattle.lxtr_spec.specs.declared.Built.{Built}
+use Rattle.lxtr_spec.specs.Builds.{Built}
 use Rattle.lxtr_laws.specs.Overlays.{over}
 
 -- The answer and the output after it are those of an outcome, for the output before it. What the work holds is left open.

@@ -1,19 +1,16 @@
 -- Typing and finishing as the code makes them: first the refusals of image and table, then room, then what goes out and what is kept.
 -- Results of calls are variables: each law says that what one return computes is the definition's answer.
-use Rattle.std.specs.Prelude.{ℕ, ◌+◌, ◌*◌, ◌/◌, ◌≤◌, min, ◌≡◌, refl, ◌≢◌, Bool, true, false, not, List, [], ◌++◌, take, leb}
+use Rattle.std.specs.Prelude.{ℕ, ◌+◌, ◌*◌, ◌/◌, ◌≤◌, min, ◌≡◌, refl, ◌≢◌, Bool, true, false, not, List, [], ◌++◌, take, leb, Option, Some, None}
 use Rattle.std.proofs.Common.{arith, zero-add, sym, ◌∙◌, length-take-le, length-append, length-drop}
 use Rattle.std.proofs.Math.Path.{ap}
-use Rattle.std.proofs.Math.Option.{Option}
 use Rattle.std.proofs.Math.ListN.{length, drop}
 use borrow.Author.Tests.{leb-true, leb-false, lt-ltb, le-ltb}
 use Rattle.lxtr_spec.specs.Numbers.{be_words}
 use Rattle.lxtr_spec.specs.Refusals.{refuse_if, first_refusal, unless_refused}
 use Rattle.lxtr_spec.specs.Searches.{case_value, lookup_of}
 use Rattle.lxtr_spec.specs.HighestValues.{highest_of}
-use Rattle.lxtr_spec.specs.Answers.{found, highest_means}
-use Rattle.lxtr_spec.specs.declared.Found.{Found}
-use Rattle.lxtr_spec.specs.declared.Found.TheVariants.{Is, Nothing}
-use Rattle.lxtr_spec.specs.declared.Lookup.{Lookup}
+use Rattle.lxtr_spec.specs.Answers.{highest_means}
+use Rattle.lxtr_spec.specs.Searches.{Lookup}
 use Rattle.lxtr_spec.specs.declared.Highest.{Highest}
 use Rattle.lxtr_laws.specs.Tests.{not_is_true, not_is_false}
 use Rattle.lxtr_laws.specs.RefusalChains.{none_first, none_refused, first_stands, stands}
@@ -31,12 +28,12 @@ use Rattle.romaji.specs.Writing.{Converts}
 -- ---- refusals of image and table
 
 -- e is what `lookup` answered for the empty query, and f its value
-module _ (b : List ℕ) (e : Lookup) (known : e ≡ lookup_of b []) (f : Found) (value : found f ≡ case_value e.case) where
-  pub empty_found : (v : ℕ) → f ≡ Is v → true ≡ has_empty_key b
+module _ (b : List ℕ) (e : Lookup) (known : e ≡ lookup_of b []) (f : Option ℕ) (value : f ≡ case_value e.case) where
+  pub empty_found : (v : ℕ) → f ≡ Some v → true ≡ has_empty_key b
   unfolding has_empty_key is_value
   empty_found v h = rw (← known, ← value, h)
 
-  pub empty_missing : f ≡ Nothing → false ≡ has_empty_key b
+  pub empty_missing : f ≡ None → false ≡ has_empty_key b
   unfolding has_empty_key is_value
   empty_missing h = rw (← known, ← value, h)
 
@@ -54,7 +51,7 @@ module _ (b kana : List ℕ) (h : Highest) (known : highest_means h ≡ highest_
   pub image_refused : (places : List ℕ) → h.refusal ≢ 0 → Passes b kana h.refusal places
   unfolding table_refusal
   image_refused places r = record {
-    refusal = rw (← known) (sym (first_stands h.refusal (later_refusal b kana (found h.value)) r));
+    refusal = rw (← known) (sym (first_stands h.refusal (later_refusal b kana h.value) r));
     places_kept = λ z. absurd (r z);
   }
 
@@ -62,7 +59,7 @@ module _ (b kana : List ℕ) (h : Highest) (known : highest_means h ≡ highest_
     pub indexed : Indexed kana (take n places)
     indexed = let l = length-take-le n places room in record { some = rw l few.0; are = put ∙ ap (text_places kana) (sym l) }
 
-    pub later_tested : (k : ℕ) → h.refusal ≡ 0 → k ≡ later_refusal b kana (found h.value) → Passes b kana k (take n places)
+    pub later_tested : (k : ℕ) → h.refusal ≡ 0 → k ≡ later_refusal b kana h.value → Passes b kana k (take n places)
     unfolding table_refusal first_refusal
     later_tested k fine e = record { refusal = rw (← known, fine) e; places_kept = λ z. indexed }
 

@@ -1,7 +1,6 @@
 -- The loop that counts the labels that go out, as far as they may: it ends early if they are more.
-use Rattle.std.specs.Prelude.{ℕ, ◌+◌, ◌-◌, ◌≤◌, ◌<◌, ◌≡◌, refl, ◌≢◌, Bool, true, false, List, [], ◌++◌, length, drop, get_or, leb}
+use Rattle.std.specs.Prelude.{ℕ, ◌+◌, ◌-◌, ◌≤◌, ◌<◌, ◌≡◌, refl, ◌≢◌, Bool, true, false, List, [], ◌++◌, length, drop, get_or, leb, Option, Some, None}
 use Rattle.std.proofs.Common.{arith, zero-add, sym, length-append, le-leb}
-use Rattle.std.proofs.Math.Option.{Option, some, none}
 use Rattle.std.proofs.lemmas.Bool.{lt-leb}
 use Rattle.romaji.specs.NextPieces.{NextIs, out_by}
 use Rattle.romaji.specs.Progress.{out_of, Going, going_start, going_end, going_stop, going_next, going_most}
@@ -15,8 +14,8 @@ pub record Counted (keeping : Bool) (b kana kept typed : List ℕ) (room l at le
 -- as many labels go out for any byte
 out_count : (kana : List ℕ) (x y : ℕ) (o : Option ℕ) → length (out_by kana x o) ≡ length (out_by kana y o)
 unfolding out_by
-out_count kana x y none = refl
-out_count kana x y (some v) = refl
+out_count kana x y None = refl
+out_count kana x y (Some v) = refl
 
 module _ (keeping : Bool) (b kana kept typed : List ℕ) (room : ℕ) where
   abbrev all : List ℕ

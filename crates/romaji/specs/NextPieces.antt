@@ -1,11 +1,10 @@
 -- The piece at a place of the text, as the code finds it: by a query of the first bytes from there on.
 -- No key is longer than the bytes looked at, and a text of which more is left than can be kept is not kept.
-use Rattle.std.specs.Prelude.{ℕ, ◌+◌, ◌-◌, ◌*◌, ◌/◌, ◌%◌, ◌≤◌, ◌<◌, min, ◌≡◌, Bool, ◌&&◌, not, take, drop, get_or}
+use Rattle.std.specs.Prelude.{ℕ, ◌+◌, ◌-◌, ◌*◌, ◌/◌, ◌%◌, ◌≤◌, ◌<◌, min, ◌≡◌, Bool, ◌&&◌, not, take, drop, get_or, Option, Some, None}
 use Rattle.std.proofs.Common.{arith, ◌∙◌, true≢false, length-append, length-drop, take_all, length-take-le, Fits}
 use Rattle.std.proofs.Math.Path.{refl, sym, ap}
 use Rattle.std.proofs.Math.Bool.{true, false}
 use mathlib.Core.List.{List, [], ◌∷◌, ◌++◌}
-use Rattle.std.proofs.Math.Option.{Option, some, none}
 use Rattle.std.proofs.Math.ListN.{length, length-take}
 use Rattle.std.proofs.lemmas.List.{take-append-le}
 use Rattle.std.proofs.Math.Dec.{leb}
@@ -14,10 +13,7 @@ use borrow.Author.Tests.{leb-true}
 use Rattle.lxtr_spec.specs.Numbers.{be_bytes, be_words}
 use Rattle.lxtr_spec.specs.Labels.{max_labels, labels_of}
 use Rattle.lxtr_spec.specs.Searches.{LongestAnswer, case_value, case_longer, lookup_of, longest_length, longest_of}
-use Rattle.lxtr_spec.specs.Answers.{found}
-use Rattle.lxtr_spec.specs.declared.Found.{Found}
-use Rattle.lxtr_spec.specs.declared.Found.TheVariants.{Is, Nothing}
-use Rattle.lxtr_spec.specs.declared.Lookup.{Lookup}
+use Rattle.lxtr_spec.specs.Searches.{Lookup}
 use Rattle.lxtr_laws.specs.ByteOrders.{big, words_size, words_one}
 use Rattle.lxtr_laws.specs.Overlays.{over}
 use Rattle.romaji_spec.specs.KanaTables.{text_bytes, kana_of}
@@ -31,8 +27,8 @@ use Rattle.romaji.specs.Tables.{take_least}
 
 -- the length of a piece by its value: of the key that has m bytes as a query, or of one byte
 abbrev pub size_by : ℕ → Option ℕ → ℕ
-size_by m none = 1
-size_by m (some v) = m / 4
+size_by m None = 1
+size_by m (Some v) = m / 4
 
 -- what was found: n labels with the value o
 pub record Looked (b q : List ℕ) (n : ℕ) (o : Option ℕ) : Type 0 where
@@ -42,33 +38,33 @@ pub record Looked (b q : List ℕ) (n : ℕ) (o : Option ℕ) : Type 0 where
 
 -- part is what `longest` handed back, e what `lookup` answered for it, and f its value
 module _ (b q : List ℕ) (no_empty : has_empty_key b ≡ false) (whole : length q % 4 ≡ 0) (k : ℕ) (part : List ℕ) (longest : ◌≡◌ {A = LongestAnswer} (record { refusal = k; part = part }) (longest_of b q))
-    (e : Lookup) (known : e ≡ lookup_of b part) (f : Found) (value : found f ≡ case_value e.case) where
+    (e : Lookup) (known : e ≡ lookup_of b part) (f : Option ℕ) (value : f ≡ case_value e.case) where
   is_part : part ≡ (longest_of b q).part
   is_part = ap (λ (a : LongestAnswer). a.part) longest
 
-  value_known : found f ≡ case_value (lookup_of b part).case
+  value_known : f ≡ case_value (lookup_of b part).case
   value_known = value ∙ ap (λ (a : Lookup). case_value a.case) known
 
-  is_value_lem : found f ≡ case_value (lookup_of b (longest_of b q).part).case
+  is_value_lem : f ≡ case_value (lookup_of b (longest_of b q).part).case
   is_value_lem = value_known ∙ ap (λ (p : List ℕ). case_value (lookup_of b p).case) is_part
 
-  pub looked_none : f ≡ Nothing → Looked b q 1 none
-  looked_none h = record { value = sym (ap found h) ∙ is_value_lem; size = refl; moves = omega arith }
+  pub looked_none : f ≡ None → Looked b q 1 None
+  looked_none h = record { value = sym (h) ∙ is_value_lem; size = refl; moves = omega arith }
 
   -- the part is whole labels, as the query is
   part_size : 1 ≤ length part → 4 ≤ length part
   unfolding longest_of
   part_size h = omega (arith, ap length is_part, length-take (4 * longest_length b q) q)
 
-  pub looked_some : (v : ℕ) → f ≡ Is v → Looked b q (length part / 4) (some v)
+  pub looked_some : (v : ℕ) → f ≡ Some v → Looked b q (length part / 4) (Some v)
   unfolding has_empty_key is_value
   looked_some v h = record {
-    value = sym (ap found h) ∙ is_value_lem;
+    value = sym (h) ∙ is_value_lem;
     size = ap (λ (p : List ℕ). length p / 4) is_part;
     moves = go part refl value_known;
   }
     where
-      go : (p : List ℕ) → part ≡ p → found f ≡ case_value (lookup_of b part).case → 1 ≤ length part / 4
+      go : (p : List ℕ) → part ≡ p → f ≡ case_value (lookup_of b part).case → 1 ≤ length part / 4
       go [] z g = absurd (true≢false (sym (ap is_value (sym (rw (z, h) at g))) ∙ no_empty))
       go (x ∷ p) z g = let s : 1 ≤ length part = rw z (omega arith) in omega (arith, part_size s)
 
@@ -76,11 +72,11 @@ module _ (b q : List ℕ) (no_empty : has_empty_key b ≡ false) (whole : length
 
 -- length and value of the piece; length 0: it is kept back
 pub data FrontIs (keeping : Bool) (b q : List ℕ) : ℕ → Option ℕ → Type 0 where
-  waits : (keeping && case_longer (lookup_of b q).case) ≡ true → FrontIs keeping b q 0 none
+  waits : (keeping && case_longer (lookup_of b q).case) ≡ true → FrontIs keeping b q 0 None
   looked : {n : ℕ} {o : Option ℕ} → (keeping && case_longer (lookup_of b q).case) ≡ false → Looked b q n o → FrontIs keeping b q n o
 
 pub data NextIs (keeping : Bool) (b r : List ℕ) : ℕ → Option ℕ → Type 0 where
-  stays : Keeps keeping b r → NextIs keeping b r 0 none
+  stays : Keeps keeping b r → NextIs keeping b r 0 None
   goes : {n : ℕ} {o : Option ℕ} → GoesOn keeping b r → 1 ≤ n → n ≡ length (piece_text (piece_at b r)) → o ≡ matched_value b r → NextIs keeping b r n o
 
 -- without `keeping` nothing waits; a is what `lookup` answered, and l whether longer keys exist
@@ -101,7 +97,7 @@ module _ (keeping : Bool) (b q : List ℕ) where
 
   -- w is what the code's test returned
   module _ (w : Bool) (known : w ≡ (keeping && case_longer (lookup_of b q).case)) where
-    pub front_waits : w ≡ true → FrontIs keeping b q 0 none
+    pub front_waits : w ≡ true → FrontIs keeping b q 0 None
     front_waits h = waits (sym known ∙ h)
 
     pub front_goes : (n : ℕ) (o : Option ℕ) → w ≡ false → Looked b q n o → FrontIs keeping b q n o
@@ -119,8 +115,8 @@ module _ (b r : List ℕ) where
   -- the piece of the text is as long as what was found
   size_by_lem : (m n : ℕ) (o : Option ℕ) → m / 4 ≤ length r → n ≡ size_by m o → n ≡ length (piece_text (piece_by r (m / 4) o))
   unfolding piece_by piece_text
-  size_by_lem m n none h e = e
-  size_by_lem m n (some v) h e = e ∙ sym (length-take-le (m / 4) r h)
+  size_by_lem m n None h e = e
+  size_by_lem m n (Some v) h e = e ∙ sym (length-take-le (m / 4) r h)
 
   few_matched : length (matched b r) / 4 ≤ length r
   unfolding matched longest_of
@@ -169,57 +165,57 @@ module _ (keeping : Bool) (b kept typed : List ℕ) (at l m : ℕ) (z q : List �
 
 -- by its value, or by the byte x
 unfoldable pub out_by : List ℕ → ℕ → Option ℕ → List ℕ
-out_by kana x none = x ∷ []
-out_by kana x (some v) = kana_of kana v
+out_by kana x None = x ∷ []
+out_by kana x (Some v) = kana_of kana v
 
 out_by_lem : (kana r : List ℕ) (n : ℕ) (o : Option ℕ) → piece_out kana (piece_by r n o) ≡ out_by kana (get_or r 0 0) o
 unfolding piece_out piece_by out_by
-out_by_lem kana r n none = refl
-out_by_lem kana r n (some v) = refl
+out_by_lem kana r n None = refl
+out_by_lem kana r n (Some v) = refl
 
 pub out_is : (kana b r : List ℕ) → piece_out kana (piece_at b r) ≡ out_by kana (get_or r 0 0) (matched_value b r)
 unfolding piece_at
 out_is kana b r = out_by_lem kana r (length (matched b r) / 4) (matched_value b r)
 
 -- f is the value, p the text of it in the table
-module _ (kana : List ℕ) (f : Found) (x : ℕ) where
-  module _ (v : ℕ) (p : List ℕ) (is : f ≡ Is v) (text : p ≡ text_bytes kana v) where
-    text_out : labels_of p ≡ out_by kana x (found f)
+module _ (kana : List ℕ) (f : Option ℕ) (x : ℕ) where
+  module _ (v : ℕ) (p : List ℕ) (is : f ≡ Some v) (text : p ≡ text_bytes kana v) where
+    text_out : labels_of p ≡ out_by kana x f
     unfolding out_by kana_of
     text_out = rw (is, text)
 
-    pub text_count : (n : ℕ) → n ≡ length (labels_of p) → n ≡ length (out_by kana x (found f))
+    pub text_count : (n : ℕ) → n ≡ length (labels_of p) → n ≡ length (out_by kana x f)
     text_count n e = e ∙ ap length text_out
 
-    module _ (at : ℕ) (room : List ℕ) (large : 4 * (at + length (out_by kana x (found f))) ≤ length room) where
+    module _ (at : ℕ) (room : List ℕ) (large : 4 * (at + length (out_by kana x f)) ≤ length room) where
       pub text_room : 4 * (at + length (labels_of p)) ≤ length room
       text_room = rw text_out large
 
-      pub text_after : (n : ℕ) → n ≡ length (labels_of p) → at + n ≡ at + length (out_by kana x (found f))
+      pub text_after : (n : ℕ) → n ≡ length (labels_of p) → at + n ≡ at + length (out_by kana x f)
       text_after n e = ap (λ (k : ℕ). at + k) (text_count n e)
 
       pub text_fits : (n : ℕ) → n ≡ length (labels_of p) → Fits w64 (length room) → Fits w64 (at + n)
       text_fits n e f = omega (arith, text_count n e)
 
-      pub text_put : (room' : List ℕ) → room' ≡ over room (4 * at) (be_words (labels_of p)) → room' ≡ over room (4 * at) (be_words (out_by kana x (found f)))
+      pub text_put : (room' : List ℕ) → room' ≡ over room (4 * at) (be_words (labels_of p)) → room' ≡ over room (4 * at) (be_words (out_by kana x f))
       text_put room' e = rw (← text_out) e
 
-  module _ (is : f ≡ Nothing) where
-    byte_out : out_by kana x (found f) ≡ x ∷ []
+  module _ (is : f ≡ None) where
+    byte_out : out_by kana x f ≡ x ∷ []
     unfolding out_by
     byte_out = rw is
 
-    pub byte_count : 1 ≡ length (out_by kana x (found f))
+    pub byte_count : 1 ≡ length (out_by kana x f)
     byte_count = sym (ap length byte_out)
 
-    module _ (at : ℕ) (room : List ℕ) (large : 4 * (at + length (out_by kana x (found f))) ≤ length room) where
+    module _ (at : ℕ) (room : List ℕ) (large : 4 * (at + length (out_by kana x f)) ≤ length room) where
       pub byte_room : 4 * at + 4 ≤ length room
       byte_room = omega (arith, byte_count)
 
-      pub byte_after : at + 1 ≡ at + length (out_by kana x (found f))
+      pub byte_after : at + 1 ≡ at + length (out_by kana x f)
       byte_after = ap (λ (k : ℕ). at + k) byte_count
 
-      pub byte_put : (room' : List ℕ) → room' ≡ over room (4 * at) (be_bytes x) → room' ≡ over room (4 * at) (be_words (out_by kana x (found f)))
+      pub byte_put : (room' : List ℕ) → room' ≡ over room (4 * at) (be_bytes x) → room' ≡ over room (4 * at) (be_words (out_by kana x f))
       byte_put room' e = e ∙ ap (over room (4 * at)) (sym (ap be_words byte_out ∙ words_one big x))
 
 -- ---- the labels of a text: the first i of n are in the room

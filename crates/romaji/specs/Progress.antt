@@ -1,10 +1,9 @@
 -- How far a text was converted, for the two loops that go from place to place by its pieces.
 -- What went out so far and what goes out from the place on is all that goes out; the rest is that of the text from there on.
-use Rattle.std.specs.Prelude.{ℕ, ◌+◌, ◌-◌, ◌/◌, ◌≤◌, ◌<◌, ◌≡◌, refl, ◌≢◌, Bool, length, drop, get_or}
+use Rattle.std.specs.Prelude.{ℕ, ◌+◌, ◌-◌, ◌/◌, ◌≤◌, ◌<◌, ◌≡◌, refl, ◌≢◌, Bool, length, drop, get_or, Option, Some, None}
 use Rattle.std.proofs.Common.{arith, add-zero, not-suc-le-zero, sym, ap₂, ◌∙◌, length-append, length-drop, length-take, Fits, drop-drop, get_or-drop}
 use Rattle.std.proofs.Math.Path.{ap}
 use mathlib.Core.List.{List, [], ◌∷◌, ◌++◌, append_assoc, append-nil}
-use Rattle.std.proofs.Math.Option.{Option, some, none}
 use Rattle.std.specs.Int.{w64}
 use Rattle.romaji_spec.specs.Pieces.{Cutting, only_rest, with_piece, matched, piece_by, piece_at, piece_text, matched_value, outgoing, cut}
 use Rattle.romaji_laws.specs.Steps.{cut_end, cut_keeps, cut_next}
@@ -13,8 +12,8 @@ use Rattle.romaji.specs.NextPieces.{NextIs, stays, goes, out_by, out_is}
 -- a piece is a part of the text
 within_by : (r : List ℕ) (m : ℕ) (o : Option ℕ) → 1 ≤ length r → length (piece_text (piece_by r m o)) ≤ length r
 unfolding piece_by piece_text
-within_by r m none h = h
-within_by r m (some v) h = omega (arith, length-take m r)
+within_by r m None h = h
+within_by r m (Some v) h = omega (arith, length-take m r)
 
 piece_within : (b r : List ℕ) → 1 ≤ length r → length (piece_text (piece_at b r)) ≤ length r
 unfolding piece_at
@@ -41,12 +40,12 @@ module _ (keeping : Bool) (b kana : List ℕ) where
   unfolding out_of only_rest outgoing
   end_out r h = (rw (cut_end keeping b r h), ap (λ (c : Cutting). c.rest) (cut_end keeping b r h))
 
-  stay_out : (r : List ℕ) → NextIs keeping b r 0 none → (out r ≡ []) × (rest_of r ≡ r)
+  stay_out : (r : List ℕ) → NextIs keeping b r 0 None → (out r ≡ []) × (rest_of r ≡ r)
   unfolding out_of only_rest outgoing
   stay_out r (stays e) = (rw (cut_keeps keeping b r e), ap (λ (c : Cutting). c.rest) (cut_keeps keeping b r e))
   stay_out r (goes g m l v) = absurd (omega arith)
 
-  stay_none : (r : List ℕ) (n : ℕ) (o : Option ℕ) → NextIs keeping b r n o → n ≡ 0 → NextIs keeping b r 0 none
+  stay_none : (r : List ℕ) (n : ℕ) (o : Option ℕ) → NextIs keeping b r n o → n ≡ 0 → NextIs keeping b r 0 None
   stay_none r n o (stays e) z = stays e
   stay_none r n o (goes g m l v) z = absurd (omega arith)
 
@@ -78,7 +77,7 @@ module _ (keeping : Bool) (b kana : List ℕ) where
         let e : length (drop at t) ≤ 0 = omega (arith, length-drop at t) in
         (so_far.gone ∙ ap (λ (xs : List ℕ). done ++ xs) (end_out (drop at t) e).0 ∙ append-nil done, so_far.rest ∙ (end_out (drop at t) e).1 ∙ sym (nothing_left (drop at t) e))
 
-    reached_stop : NextIs keeping b (drop at t) 0 none → (out t ≡ done) × (rest_of t ≡ drop at t)
+    reached_stop : NextIs keeping b (drop at t) 0 None → (out t ≡ done) × (rest_of t ≡ drop at t)
     reached_stop s = (so_far.gone ∙ ap (λ (xs : List ℕ). done ++ xs) (stay_out (drop at t) s).0 ∙ append-nil done, so_far.rest ∙ (stay_out (drop at t) s).1)
 
     module _ (n : ℕ) (o : Option ℕ) (here : at < length t) (next : NextIs keeping b (drop at t) n o) (moves : n ≢ 0) where

@@ -1,6 +1,6 @@
 -- The place of a text in a table, as the code finds it: cut off at the table's end. A text that begins at the end or past it is not
 -- whole, and all after it begin past the end too.
-use Rattle.std.specs.Prelude.{ℕ, zero, suc, ◌+◌, ◌-◌, ◌*◌, ◌≤◌, ◌<◌, min, ◌≡◌, Bool, length, take, drop, set, leb}
+use Rattle.std.specs.Prelude.{ℕ, zero, suc, ◌+◌, ◌-◌, ◌*◌, ◌≤◌, ◌<◌, min, ◌≡◌, Bool, length, take, drop, set, leb, Some, None, Option}
 use native.Mathlib.Omega.{arith}
 use Rattle.std.proofs.Common.{add-one, ap, ◌∙◌, length-append, drop_of_length-le, take_all, take-suc-set}
 use Rattle.std.proofs.Math.Path.{refl, sym, ap₂}
@@ -11,9 +11,6 @@ use Rattle.std.proofs.Math.Seq.{take-nil}
 use Rattle.std.proofs.lemmas.List.{get_or_at}
 use Rattle.std.proofs.Math.Dec.{ltb}
 use borrow.Author.Tests.{lt-ltb, le-ltb, ltb-true, ltb-false, leb-true, leb-false}
-use Rattle.lxtr_spec.specs.Answers.{found}
-use Rattle.lxtr_spec.specs.declared.Found.{Found}
-use Rattle.lxtr_spec.specs.declared.Found.TheVariants.{Is, Nothing}
 use Rattle.romaji_spec.specs.KanaTables.{text_end, text_at, text_bytes, text_cut, table_short}
 use Rattle.romaji_laws.specs.TextPlaces.{text_rises}
 
@@ -175,11 +172,11 @@ module _ (kana places₀ : List ℕ) (n : ℕ) where
     places_end h = let e : i ≡ n = omega (arith, before.to) in rw e at before.put
 
 -- the table by its highest value
-module _ (kana : List ℕ) (f : Found) where
-  pub short_of : (v : ℕ) (t : Bool) → f ≡ Is v → t ≡ text_cut kana v → t ≡ table_short kana (found f)
+module _ (kana : List ℕ) (f : Option ℕ) where
+  pub short_of : (v : ℕ) (t : Bool) → f ≡ Some v → t ≡ text_cut kana v → t ≡ table_short kana f
   unfolding table_short
   short_of v t h e = rw h e
 
-  pub short_none : f ≡ Nothing → false ≡ table_short kana (found f)
+  pub short_none : f ≡ None → false ≡ table_short kana f
   unfolding table_short
   short_none h = rw h

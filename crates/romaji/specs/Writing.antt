@@ -1,8 +1,7 @@
 -- The loop that writes the labels that go out to the room's front: those of each piece behind those before it.
-use Rattle.std.specs.Prelude.{ℕ, ◌+◌, ◌*◌, ◌≤◌, ◌<◌, ◌≡◌, refl, ◌≢◌, Bool, List, [], ◌++◌, length, drop, get_or}
+use Rattle.std.specs.Prelude.{ℕ, ◌+◌, ◌*◌, ◌≤◌, ◌<◌, ◌≡◌, refl, ◌≢◌, Bool, List, [], ◌++◌, length, drop, get_or, Option}
 use Rattle.std.proofs.Common.{arith, ap, ◌∙◌, length-append}
 use Rattle.std.proofs.Math.Path.{sym}
-use Rattle.std.proofs.Math.Option.{Option}
 use Rattle.lxtr_spec.specs.Numbers.{be_words}
 use Rattle.lxtr_laws.specs.ByteOrders.{big, words_size, words_append}
 use Rattle.lxtr_laws.specs.Overlays.{over, over_none, over_over, over_length}

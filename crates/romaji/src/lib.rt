@@ -9,7 +9,6 @@ mod pieces; // the piece at a place of the text
 pub mod states; // the state as bytes, for C
 
 ghost use Rattle.std.specs.Prelude.{◌≡◌, [], ◌++◌, false, ◌*◌, ◌≤◌, length, take, leb};
-ghost use Rattle.lxtr_spec.specs.Answers.{found};
 ghost use Rattle.romaji_spec.specs.Pieces.{cut};
 ghost use Rattle.romaji_spec.specs.Typing.{has_empty_key, answered, convert, type_of, finish_of};
 ghost use Rattle.romaji.specs.Tables.{most_places, Indexed};
@@ -23,7 +22,6 @@ use crate::texts::{kept_count, kept_room, rest_kept, text_length};
 use lxtr_highest::highest;
 use lxtr_search::cases::found_value;
 use lxtr_search::lookup;
-use lxtr_spec::Found;
 use romaji_spec::{EMPTY_KEY, NO_ROOM, State, TABLE_TOO_SHORT, Typed};
 
 // Whether the image has the empty key.
@@ -31,8 +29,8 @@ fn has_empty_key(image: &[u8]) -> bool
     ensures { result ≡ has_empty_key image.now }
 {
     match found_value(lookup(image, b"")) {
-        Found::Is(_) => true,
-        Found::Nothing => false,
+        Some(_) => true,
+        None => false,
     }
 }
 
@@ -44,9 +42,9 @@ struct Tested {
 }
 
 // The first of refusals 24 and 25 that holds, or 0, for an image with this highest value.
-fn later_refusal(image: &[u8], kana: &[u8], places: &[usize], highest: Found) -> u8
+fn later_refusal(image: &[u8], kana: &[u8], places: &[usize], highest: Option<u32>) -> u8
     requires { Indexed kana.now places.now }
-    ensures { result ≡ later_refusal image.now kana.now (found highest) }
+    ensures { result ≡ later_refusal image.now kana.now highest }
 {
     if table_short(kana, places, highest) {
         return TABLE_TOO_SHORT;

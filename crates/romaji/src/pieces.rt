@@ -3,7 +3,6 @@ ghost use Rattle.std.specs.Prelude.{◌≡◌, ◌++◌, false, ◌&&◌, ◌+�
 ghost use Rattle.lxtr_spec.specs.Numbers.{be_words};
 ghost use Rattle.lxtr_spec.specs.Labels.{labels_of};
 ghost use Rattle.lxtr_spec.specs.Searches.{case_longer, lookup_of};
-ghost use Rattle.lxtr_spec.specs.Answers.{found};
 ghost use Rattle.lxtr_laws.specs.Overlays.{over};
 ghost use Rattle.romaji_spec.specs.Typing.{has_empty_key};
 ghost use Rattle.romaji.specs.Tables.{Indexed};
@@ -15,7 +14,7 @@ use lxtr_bytes::labels::{label_at, label_count};
 use lxtr_bytes::numbers::{lesser, put_be32};
 use lxtr_search::cases::{found_value, has_longer};
 use lxtr_search::{longest, lookup};
-use lxtr_spec::{Found, MAX_LABELS};
+use lxtr_spec::{MAX_LABELS};
 use romaji_spec::MAX_KEPT;
 
 // The piece at a place: its length in bytes, and the value of the key, or none if a byte passes. Length 0: the text is kept from
@@ -23,7 +22,7 @@ use romaji_spec::MAX_KEPT;
 #[derive(Clone, Copy)]
 pub struct Next {
     pub length: usize,
-    pub value: Found,
+    pub value: Option<u32>,
 }
 
 // Whether a query is kept back: with `keeping`, if it is a proper front part of a key.
@@ -40,19 +39,19 @@ fn waits(image: &[u8], query: &[u8], keeping: bool) -> bool
 fn longest_key(image: &[u8], query: &[u8]) -> Next
     requires image_value { has_empty_key image.now ≡ false }
     requires query_len { length query.now % 4 ≡ 0 }
-    ensures { Looked image.now query.now result.length (found result.value) }
+    ensures { Looked image.now query.now result.length result.value }
 {
     let mut refusal: u8 = 0;
     let part = longest(image, query, &mut refusal);
-    let Found::Is(v) = found_value(lookup(image, part)) else {
+    let Some(v) = found_value(lookup(image, part)) else {
         return Next {
             length: 1,
-            value: Found::Nothing,
+            value: None,
         };
     };
     Next {
         length: part.len() / 4,
-        value: Found::Is(v),
+        value: Some(v),
     }
 }
 
@@ -60,12 +59,12 @@ fn longest_key(image: &[u8], query: &[u8]) -> Next
 fn front_piece(image: &[u8], query: &[u8], keeping: bool) -> Next
     requires image_value { has_empty_key image.now ≡ false }
     requires query_len { length query.now % 4 ≡ 0 }
-    ensures { FrontIs keeping image.now query.now result.length (found result.value) }
+    ensures { FrontIs keeping image.now query.now result.length result.value }
 {
     if waits(image, query, keeping) {
         return Next {
             length: 0,
-            value: Found::Nothing,
+            value: None,
         };
     }
     longest_key(image, query)
@@ -75,7 +74,7 @@ fn front_piece(image: &[u8], query: &[u8], keeping: bool) -> Next
 pub fn next_piece(image: &[u8], kept: &[u8], typed: &[u8], at: usize, keeping: bool) -> Next
     requires image_value { has_empty_key image.now ≡ false }
     requires at_in_bounds { at < length kept.now + length typed.now }
-    ensures { NextIs keeping image.now (drop at (kept.now ++ typed.now)) result.length (found result.value) }
+    ensures { NextIs keeping image.now (drop at (kept.now ++ typed.now)) result.length result.value }
 {
     let left = text_length(kept, typed) - at;
     // no key is longer than these bytes
@@ -87,13 +86,13 @@ pub fn next_piece(image: &[u8], kept: &[u8], typed: &[u8], at: usize, keeping: b
 }
 
 // How many labels go out for a piece: for the text of a value, or for a byte that passes.
-pub fn out_count(kana: &[u8], places: &[usize], value: Found) -> usize
+pub fn out_count(kana: &[u8], places: &[usize], value: Option<u32>) -> usize
     requires { Indexed kana.now places.now }
-    ensures { result ≡ length (out_by kana.now 0 (found value)) }
+    ensures { result ≡ length (out_by kana.now 0 value) }
 {
     match value {
-        Found::Is(v) => label_count(text_bytes(kana, places, v)),
-        Found::Nothing => 1,
+        Some(v) => label_count(text_bytes(kana, places, v)),
+        None => 1,
     }
 }
 
@@ -115,7 +114,7 @@ fn put_text(text: &[u8], room: &mut [u8], at: usize)
 pub fn put_piece(
     kana: &[u8],
     places: &[usize],
-    value: Found,
+    value: Option<u32>,
     kept: &[u8],
     typed: &[u8],
     at: usize,
@@ -124,11 +123,11 @@ pub fn put_piece(
 ) -> usize
     requires indexed { Indexed kana.now places.now }
     requires at_in_bounds { at < length kept.now + length typed.now }
-    requires value_in_bounds { 4 * (count + length (out_by kana.now (get_or (kept.now ++ typed.now) at 0) (found value))) ≤ length room.old }
-    ensures value { result ≡ count + length (out_by kana.now (get_or (kept.now ++ typed.now) at 0) (found value)) }
-    ensures room_after { room.new ≡ over room.old (4 * count) (be_words (out_by kana.now (get_or (kept.now ++ typed.now) at 0) (found value))) }
+    requires value_in_bounds { 4 * (count + length (out_by kana.now (get_or (kept.now ++ typed.now) at 0) value)) ≤ length room.old }
+    ensures value { result ≡ count + length (out_by kana.now (get_or (kept.now ++ typed.now) at 0) value) }
+    ensures room_after { room.new ≡ over room.old (4 * count) (be_words (out_by kana.now (get_or (kept.now ++ typed.now) at 0) value)) }
 {
-    let Found::Is(v) = value else {
+    let Some(v) = value else {
         put_label(kept, typed, at, room, count);
         return count + 1;
     };

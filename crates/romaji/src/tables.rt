@@ -1,12 +1,10 @@
 // The kana table: where the text of a value lies, and whether the texts of all values of an image are whole. The places of the
 // first texts are kept, because to find a text by the length bytes before it takes longer the higher its value is.
 ghost use Rattle.std.specs.Prelude.{◌≡◌, ◌*◌, ◌^◌, ◌≤◌, ◌<◌, min, length, take};
-ghost use Rattle.lxtr_spec.specs.Answers.{found};
 ghost use Rattle.romaji_spec.specs.KanaTables.{text_end, text_at, text_bytes, text_cut, table_short};
 ghost use Rattle.romaji.specs.Tables.{most_places, text_places, Indexed};
 
 use lxtr_bytes::numbers::{index, lesser};
-use lxtr_spec::Found;
 
 // The most texts whose places are kept.
 pub const INDEXED: usize = 512;
@@ -35,12 +33,12 @@ fn text_end(kana: &[u8], at: usize) -> usize
 
 // How many places are kept for an image with this highest value: one for each text, and at least one. Any number in this range
 // gives the same answers; with more places, texts are found sooner.
-pub fn place_count(highest: Found) -> usize
+pub fn place_count(highest: Option<u32>) -> usize
     ensures { (1 ≤ result) × (result ≤ most_places) }
 {
     match highest {
-        Found::Is(v) => lesser(index(v) + 1, INDEXED),
-        Found::Nothing => 1,
+        Some(v) => lesser(index(v) + 1, INDEXED),
+        None => 1,
     }
 }
 
@@ -107,12 +105,12 @@ fn text_cut(kana: &[u8], places: &[usize], v: u32) -> bool
 }
 
 // Whether the table ends before the text of the highest value of an image, if it has one, is whole.
-pub fn table_short(kana: &[u8], places: &[usize], highest: Found) -> bool
+pub fn table_short(kana: &[u8], places: &[usize], highest: Option<u32>) -> bool
     requires { Indexed kana.now places.now }
-    ensures { result ≡ table_short kana.now (found highest) }
+    ensures { result ≡ table_short kana.now highest }
 {
     match highest {
-        Found::Is(v) => text_cut(kana, places, v),
-        Found::Nothing => false,
+        Some(v) => text_cut(kana, places, v),
+        None => false,
     }
 }

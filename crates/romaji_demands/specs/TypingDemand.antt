@@ -2,8 +2,7 @@
 -- Only the program that the statements are about, and the statements; that the definitions meet them is `typing_demand` in
 -- Laws/Typing.antt, `typing_in_parts` and `finishing_after_typing` in Laws/Parts.antt, and `typing_in_many_parts` and
 -- `finishing_after_parts` in Laws/ManyParts.antt.
-use Rattle.std.specs.Prelude.{ℕ, suc, ◌+◌, ◌*◌, ◌≤◌, ◌<◌, ◌^◌, ◌≡◌, ◌≢◌, ◌⊎◌, List, [], ◌∷◌, ◌++◌, length, take, drop, get_or}
-use Rattle.std.proofs.Math.Option.{none}
+use Rattle.std.specs.Prelude.{ℕ, suc, ◌+◌, ◌*◌, ◌≤◌, ◌<◌, ◌^◌, ◌≡◌, ◌≢◌, ◌⊎◌, List, [], ◌∷◌, ◌++◌, length, take, drop, get_or, None}
 use Rattle.lxtr_spec.specs.Refusals.{image_refusal, unless_refused}
 use Rattle.lxtr_spec.specs.Sets.{PairSet, Has, ImageOf}
 use Rattle.lxtr_spec.specs.Meaning.{Longer}
@@ -30,7 +29,7 @@ TableWhole kana d = (k : List ℕ) (v : ℕ) → Has d k v → text_at kana (suc
 pub record Ready (b kana : List ℕ) (d : PairSet) : Type 0 where
   pub image : ImageOf b d
   pub whole : TableWhole kana d
-  pub no_empty : d [] ≡ none
+  pub no_empty : d [] ≡ None
 
 -- the others, with the number of the refusal
 pub data RefusedBy (b kana : List ℕ) : ℕ → Type 0 where

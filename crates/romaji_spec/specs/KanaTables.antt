@@ -1,6 +1,5 @@
 -- Document 02, request 1: the kana table, which holds a text for each value number.
-use Rattle.std.specs.Prelude.{ℕ, zero, suc, ◌+◌, ◌*◌, List, Bool, false, length, take, drop, ltb}
-use Rattle.std.proofs.Math.Option.{Option, some, none}
+use Rattle.std.specs.Prelude.{ℕ, zero, suc, ◌+◌, ◌*◌, List, Bool, false, length, take, drop, ltb, Option, Some, None}
 use Rattle.lxtr_spec.specs.Numbers.{byte_at}
 use Rattle.lxtr_spec.specs.Labels.{labels_of}
 
@@ -28,5 +27,5 @@ text_cut kana v = ltb (length kana) (text_end kana (text_at kana v))
 -- 24: the table ends before the text of some value in the image is whole. (Texts lie one after the other, so it is enough to look at
 -- the highest value, if there is one.)
 unfoldable pub table_short : List ℕ → Option ℕ → Bool
-table_short kana none = false
-table_short kana (some v) = text_cut kana v
+table_short kana None = false
+table_short kana (Some v) = text_cut kana v

@@ -1,7 +1,6 @@
 -- Document 02, request 1: how a text of typed bytes is cut into pieces and a rest. Each byte is the label of its number, so a text is
 -- looked up as the query of those labels.
-use Rattle.std.specs.Prelude.{ℕ, zero, suc, ◌-◌, ◌/◌, List, [], ◌∷◌, ◌++◌, Bool, true, false, ◌&&◌, length, take, get_or, leb}
-use Rattle.std.proofs.Math.Option.{Option, some, none}
+use Rattle.std.specs.Prelude.{ℕ, zero, suc, ◌-◌, ◌/◌, List, [], ◌∷◌, ◌++◌, Bool, true, false, ◌&&◌, length, take, get_or, leb, Option, Some, None}
 use Rattle.lxtr_spec.specs.Numbers.{be_words}
 use Rattle.lxtr_spec.specs.Labels.{max_labels}
 use Rattle.lxtr_spec.specs.Searches.{case_value, case_longer, lookup_of, longest_of}
@@ -31,8 +30,8 @@ matched_value b r = case_value (lookup_of b (matched b r)).case
 
 -- a byte at which no key matches passes through
 unfoldable pub piece_by : List ℕ → ℕ → Option ℕ → Piece
-piece_by r n none = byte (get_or r 0 0)
-piece_by r n (some v) = key (take n r) v
+piece_by r n None = byte (get_or r 0 0)
+piece_by r n (Some v) = key (take n r) v
 
 unfoldable pub piece_at : List ℕ → List ℕ → Piece
 piece_at b r = piece_by r (length (matched b r) / 4) (matched_value b r)

@@ -1,6 +1,5 @@
 -- Document 02, request 1: typing and finishing, for all bytes as image, table and text, and for every state and room.
-use Rattle.std.specs.Prelude.{ℕ, ◌-◌, ◌*◌, List, [], ◌++◌, Bool, true, false, length, take, drop, replicate, ltb}
-use Rattle.std.proofs.Math.Option.{Option, some, none}
+use Rattle.std.specs.Prelude.{ℕ, ◌-◌, ◌*◌, List, [], ◌++◌, Bool, true, false, length, take, drop, replicate, ltb, Option, Some, None}
 use Rattle.lxtr_spec.specs.Numbers.{be_words}
 use Rattle.lxtr_spec.specs.Refusals.{refuse_if, first_refusal, unless_refused}
 use Rattle.lxtr_spec.specs.Searches.{case_value, lookup_of}
@@ -8,7 +7,7 @@ use Rattle.lxtr_spec.specs.HighestValues.{highest_of}
 use Rattle.romaji_spec.specs.KanaTables.{table_short}
 use Rattle.romaji_spec.specs.Pieces.{max_kept, Cutting, cut, outgoing}
 use Rattle.romaji_spec.specs.declared.State.{State}
-use Rattle.romaji_spec.specs.declared.Typed.{Typed}
+use Rattle.romaji_spec.specs.Typing.{Typed}
 
 -- The bytes that a state keeps. (A state that counts more bytes than it has comes from no call, and document 02 leaves its answer free;
 -- here all of its bytes are kept.)
@@ -21,8 +20,8 @@ state_of r = record { count = length r; kept = r ++ replicate (max_kept - length
 
 -- 25: the image has the empty key
 unfoldable pub is_value : Option ℕ → Bool
-is_value none = false
-is_value (some v) = true
+is_value None = false
+is_value (Some v) = true
 
 unfoldable pub has_empty_key : List ℕ → Bool
 has_empty_key b = is_value (case_value (lookup_of b []).case)

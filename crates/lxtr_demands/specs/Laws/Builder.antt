@@ -1,10 +1,10 @@
 -- Demand 2 for the builder, from its parts: the definitions place exactly the first-fit image, each of their refusals is one of the
 -- statement, and what is built reads back.
-use Rattle.std.specs.Prelude.{ℕ, zero, suc, ◌<◌, ◌≤◌, ◌≡◌, refl, ◌⊎◌, length, replicate}
+use Rattle.std.specs.Prelude.{ℕ, zero, suc, ◌<◌, ◌≤◌, ◌≡◌, refl, ◌⊎◌, length, replicate, Option, Some, None}
 use Rattle.std.proofs.Common.{arith, sym, ap, ap₂, ◌∙◌, subst, inl, inr}
 use Rattle.std.proofs.Math.Decide.{dec_lt, ℕ_discrete}
 use mathlib.Core.List.{List}
-use Rattle.std.proofs.Math.Option.{Option, some, none, none-ne-some}
+use Rattle.lxtr_laws.specs.StepFacts.{none_not_some}
 use Rattle.lxtr_spec.specs.Labels.{length_count, max_listed, Pair}
 use Rattle.lxtr_spec.specs.KeyLists.{pairs_of, list_refusal}
 use Rattle.lxtr_spec.specs.CodeMaps.{frequency, map_of, code_in, label_with}
@@ -52,7 +52,7 @@ module _ (keys work out : List ℕ) where
   same_map labels by = codes_by_frequency.one_map ps labels map by (codes_by_frequency.listed ps)
 
   -- what the definitions place is a first-fit image,
-  placed_image : (w : List ℕ) → placed_in W ps map ≡ some w → FirstFitImage keys W (image_in w (slots_used w (slots_in W)) map)
+  placed_image : (w : List ℕ) → placed_in W ps map ≡ Some w → FirstFitImage keys W (image_in w (slots_used w (slots_in W)) map)
   unfolding placed_in
   placed_image w e = record {
     labels = map;
@@ -66,7 +66,7 @@ module _ (keys work out : List ℕ) where
 
   -- and every first-fit image is what they place
   module _ (image : List ℕ) (f : FirstFitImage keys W image) where
-    image_placed : placed_in W ps map ≡ some f.work
+    image_placed : placed_in W ps map ≡ Some f.work
     unfolding placed_in
     image_placed = fit_placed (slots_in W) (code_in map) (label_with map) length_count 1 ps (replicate W 0) f.work
         (subst (λ (l : List ℕ). PlacedByFit (slots_in W) (code_in l) (label_with l) length_count 1 ps (replicate W 0) f.work) (same_map f.labels f.by_frequency) f.placed)
@@ -93,9 +93,9 @@ module _ (keys work out : List ℕ) where
   outcome_refused k (no_base labels p by h n) =
       none_placed W (length out) keys p.0 p.1 (subst (λ (l : List ℕ). length l ≤ max_listed) (same_map labels by) h) (go (placed_in W ps map) refl)
     where
-      go : (o : Option (List ℕ)) → placed_in W ps map ≡ o → placed_in W ps map ≡ none
-      go none e = e
-      go (some w) e = absurd (n (image_in w (slots_used w (slots_in W)) map) (placed_image w e))
+      go : (o : Option (List ℕ)) → placed_in W ps map ≡ o → placed_in W ps map ≡ None
+      go None e = e
+      go (Some w) e = absurd (n (image_in w (slots_used w (slots_in W)) map) (placed_image w e))
   outcome_refused k (short_output image f p h l) =
       room_short W (length out) keys p.0 p.1 (map_few image f h) f.work image (image_placed image f) (image_is image f) l
 
@@ -111,8 +111,8 @@ module _ (keys work out : List ℕ) where
       by_room p image f h (no n) = inl (image, record { passes = p; by_first_fit = f; few_labels = h; room = omega arith })
 
       by_place : ListPasses keys work → length map ≤ max_listed → (o : Option (List ℕ)) → placed_in W ps map ≡ o → Decision
-      by_place p h none e = inr (22, no_base map p (codes_by_frequency.listed ps) h (λ image f. none-ne-some f.work (sym e ∙ image_placed image f)))
-      by_place p h (some w) e =
+      by_place p h None e = inr (22, no_base map p (codes_by_frequency.listed ps) h (λ image f. none_not_some (sym e ∙ image_placed image f)))
+      by_place p h (Some w) e =
           let f = placed_image w e in
           let image : List ℕ = image_in w (slots_used w (slots_in W)) map in
           by_room p image f (subst (λ (l : List ℕ). length l ≤ max_listed) (sym (same_map f.labels f.by_frequency)) h) (dec_lt (length out) (length image))

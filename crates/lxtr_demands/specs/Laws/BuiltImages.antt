@@ -1,12 +1,11 @@
 -- If the pairs of a key list are placed in a work, the image of that work is an image of the set of these pairs.
-use Rattle.std.specs.Prelude.{ℕ, ◌+◌, ◌*◌, ◌-◌, ◌/◌, ◌%◌, ◌^◌, ◌≤◌, ◌<◌, ◌≡◌, refl, true, ◌&&◌, not, leb, length, take, replicate}
+use Rattle.std.specs.Prelude.{ℕ, ◌+◌, ◌*◌, ◌-◌, ◌/◌, ◌%◌, ◌^◌, ◌≤◌, ◌<◌, ◌≡◌, refl, true, ◌&&◌, not, leb, length, take, replicate, Some}
 use Rattle.std.proofs.Math.Decide.{ℕ_discrete}
 use native.Mathlib.Omega.{arith}
 use Rattle.std.proofs.Math.Path.{sym, subst}
 use Rattle.std.proofs.Common.{ap, ◌∙◌, get_or-take, length-take-le}
 use mathlib.Core.List.Memᴰ
 use mathlib.Core.List.{List, ◌∷◌, ◌++◌, Memᴰ}
-use Rattle.std.proofs.Math.Option.{some}
 use Rattle.std.proofs.Math.ListN.{get_or}
 use Rattle.lxtr_spec.specs.Labels.{is_scalar, max_slots, max_listed, Pair}
 use Rattle.lxtr_spec.specs.Image.{label_of_code}
@@ -35,7 +34,7 @@ pub scalar_small : (x : ℕ) → is_scalar x ≡ true → x < 2 ^ 32
 unfolding is_scalar
 scalar_small x e = omega (arith, (leb_is_true x 0x10FFFF).0 ((and_is_true (leb x 0x10FFFF) (not (leb 0xD800 x && leb x 0xDFFF))).0 e).0)
 
-module _ (W : ℕ) (ps : List Pair) (w : List ℕ) (words : 4 ≤ W) (right : KeysRight ps) (few : length (map_of ps) ≤ max_listed) (placed : placed_in W ps (map_of ps) ≡ some w) where
+module _ (W : ℕ) (ps : List Pair) (w : List ℕ) (words : 4 ≤ W) (right : KeysRight ps) (few : length (map_of ps) ≤ max_listed) (placed : placed_in W ps (map_of ps) ≡ Some w) where
   abbrev m : List ℕ
   m = map_of ps
 

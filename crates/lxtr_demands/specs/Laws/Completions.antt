@@ -1,10 +1,9 @@
 -- Completion over an image lists, for any query, the pairs of the set whose keys begin with its labels, as far as there is room.
 -- If the labels lead nowhere, there are none.
-use Rattle.std.specs.Prelude.{ℕ, ◌+◌, ◌-◌, ◌%◌, ◌≤◌, ◌≡◌, List, ◌++◌, drop, ltb}
+use Rattle.std.specs.Prelude.{ℕ, ◌+◌, ◌-◌, ◌%◌, ◌≤◌, ◌≡◌, List, ◌++◌, drop, ltb, Option}
 use native.Mathlib.Omega.{arith}
 use Rattle.std.proofs.Common.{inr}
 use mathlib.Core.List.Memᴰ
-use Rattle.std.proofs.Math.Option.{Option}
 use Rattle.std.proofs.Math.ListN.{length}
 use borrow.Author.Tests.{le-ltb}
 use Rattle.lxtr_spec.specs.Labels.{length_count, labels_of, Pair}

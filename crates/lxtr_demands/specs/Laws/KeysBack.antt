@@ -2,9 +2,8 @@
 -- Demands 2 and 3 say what they answer over an image; the keys ascend, so each pair is listed once.
 use Prim.Native.Nat.{ℕ, zero, suc, ◌%◌, ◌^◌, ◌<◌}
 use Rattle.std.proofs.Common.{arith, sym, ap, ◌∙◌}
-use Rattle.std.specs.Prelude.{◌≡◌, ◌≢◌, true, get_or, length}
+use Rattle.std.specs.Prelude.{◌≡◌, ◌≢◌, true, get_or, length, Some}
 use mathlib.Core.List.{List, [], ◌∷◌, Memᴰ}
-use Rattle.std.proofs.Math.Option.{some}
 use Rattle.lxtr_spec.specs.Numbers.{be_words}
 use Rattle.lxtr_spec.specs.Labels.{labels_of, comes_before, Pair}
 use Rattle.lxtr_spec.specs.Refusals.{unless_refused, end_count, check_of}
@@ -64,17 +63,17 @@ module _ (keys image : List ℕ) (right : KeysRight (pairs_of keys)) (image_of :
   listing_count : (rs : List Pair) → Lists image d [] rs → length rs ≡ key_count keys
   listing_count rs l = sym (listing_counted (known_image image_of) rs l) ∙ ends_count
 
-  lookup_finds : (k : List ℕ) (v : ℕ) → Memᴰ (k, v) ps → GivesValue defined image (be_words k) (some v)
+  lookup_finds : (k : List ℕ) (v : ℕ) → Memᴰ (k, v) ps → GivesValue defined image (be_words k) (Some v)
   lookup_finds k v m =
       let small : (i : ℕ) → i < length k → get_or k i 0 < 2 ^ 32 = λ i h. scalar_small (get_or k i 0) (right.scalar (k, v) m (get_or k i 0) (member_at 0 k i h)) in
       let whole : length (be_words k) % 4 ≡ 0 = omega (arith, words_length k) in
       rw (labels_back k small, has k v m) at (demand2 image d (be_words k) image_of whole).searched.lookup_value
 
-  lookup_only : (q : List ℕ) (v : ℕ) → case_value (lookup_of image q).case ≡ some v → Memᴰ (labels_of q, v) ps
+  lookup_only : (q : List ℕ) (v : ℕ) → case_value (lookup_of image q).case ≡ Some v → Memᴰ (labels_of q, v) ps
   unfolding lookup_of case_value value_within unless_refused
   lookup_only q v e = go (search_refusal image q) e
     where
-      go : (n : ℕ) → case_value (unless_refused n (case_within image (labels_of q)) Neither) ≡ some v → Memᴰ (labels_of q, v) ps
+      go : (n : ℕ) → case_value (unless_refused n (case_within image (labels_of q)) Neither) ≡ Some v → Memᴰ (labels_of q, v) ps
       go zero e = member (labels_of q) v (ap (λ (f : PairSet). f (labels_of q)) (sym (lookup_set (known_image image_of))) ∙ e)
       go (suc n) e = absurd (none_not_some e)
 

@@ -2,10 +2,9 @@
 -- Every used slot from 2 up has one place in the children array, so there are as many such slots as places.
 use Prim.Native.Nat.{ℕ, zero, suc, ◌+◌, ◌-◌, ◌<◌}
 use Rattle.std.proofs.Common.{arith, ◌∙◌, inr, true≢false}
-use Rattle.std.specs.Prelude.{◌≡◌, refl, ◌≢◌, true, false}
+use Rattle.std.specs.Prelude.{◌≡◌, refl, ◌≢◌, true, false, Option, Some, None}
 use Rattle.std.proofs.Math.Path.{sym, ap}
 use mathlib.Core.List.{List, [], ◌∷◌, ◌++◌, append-nil}
-use Rattle.std.proofs.Math.Option.{Option, some, none}
 use Rattle.std.proofs.Math.ListN.{length, length-append}
 use Rattle.lxtr_spec.specs.Labels.{length_count}
 use Rattle.lxtr_spec.specs.Image.{slot_count, child_count, is_leaf, base, parent, child, list_width}
@@ -78,9 +77,9 @@ module _ {b : List ℕ} {d : PairSet} (known : KnownImage b d) where
   childless_root : list_width b 1 ≡ 0 → base b 1 ≡ 0
   childless_root e = image.placed.empty_root (λ k. go k (d k) refl)
     where
-      go : (k : List ℕ) → (o : Option ℕ) → d k ≡ o → d k ≡ none
-      go k none h = h
-      go k (some v) h = absurd (has_child [] k v h (rw image.placed.root e))
+      go : (k : List ℕ) → (o : Option ℕ) → d k ≡ o → d k ≡ None
+      go k None h = h
+      go k (Some v) h = absurd (has_child [] k v h (rw image.placed.root e))
 
   pub lists_right : ListsRight b
   lists_right = record { rising = image.lists.rising; count = children_counted; entry = entry_right; parents = λ s l. inner_has_child (kinds s l); root = childless_root }

@@ -1,10 +1,9 @@
 -- The case of a lookup is the one that is true of the set: its value is the set's, and the width of a slot's list says whether longer
 -- keys exist. Its entries are the slots of longer prefixes and, if the prefix is a key, its own end, which comes first.
-use Rattle.std.specs.Prelude.{ℕ, ◌+◌, ◌<◌, ◌≡◌, ◌≢◌, ◌↔◌, Bool, true, false, cond}
+use Rattle.std.specs.Prelude.{ℕ, ◌+◌, ◌<◌, ◌≡◌, ◌≢◌, ◌↔◌, Bool, true, false, cond, Option, Some, None}
 use Rattle.std.proofs.Common.{arith, ap, ◌∙◌, inr, true≢false}
 use Rattle.std.proofs.Math.Path.{refl, sym}
 use mathlib.Core.List.{List, [], ◌∷◌, ◌++◌, append_assoc, append-nil}
-use Rattle.std.proofs.Math.Option.{Option, some, none}
 use Rattle.std.proofs.Math.Bool.{false≢true}
 use Rattle.lxtr_spec.specs.Image.{has_leaf, offset, child, list_width}
 use Rattle.lxtr_spec.specs.Walks.{walk_within, value_at, longer_at}
@@ -41,9 +40,9 @@ module _ (d : PairSet) (xs : List ℕ) where
   unfolding case_value case_longer
   case_says Neither none_begins = record { value = go (d xs) refl; longer = (λ e. absurd (false≢true e), λ l. absurd (none_begins (l.next ∷ l.rest) l.value l.is)) }
     where
-      go : (o : Option ℕ) → d xs ≡ o → none ≡ d xs
-      go none e = sym e
-      go (some v) e = absurd (none_begins [] v (rw append-nil e))
+      go : (o : Option ℕ) → d xs ≡ o → None ≡ d xs
+      go None e = sym e
+      go (Some v) e = absurd (none_begins [] v (rw append-nil e))
   case_says PrefixOnly (l, e) = record { value = sym e; longer = (λ _. l, λ _. refl) }
   case_says (ExactOnly v) (h, none-longer) = record { value = sym h; longer = (λ e. absurd (false≢true e), λ l. absurd (none-longer l)) }
   case_says (ExactAndPrefix v) (h, l) = record { value = sym h; longer = (λ _. l, λ _. refl) }

@@ -6,8 +6,7 @@ use Rattle.std.proofs.Math.Decide.{ℕ_discrete}
 use Rattle.std.proofs.Math.Path.{◌≡◌, refl, ap, subst}
 use mathlib.Core.List.Memᴰ
 use mathlib.Core.List.{List, [], ◌∷◌}
-use Rattle.std.proofs.Math.Option.{Option, some, none}
-use Rattle.std.specs.Prelude.{true}
+use Rattle.std.specs.Prelude.{true, Option, Some, None}
 use Rattle.lxtr_spec.specs.Labels.{Pair}
 use Rattle.lxtr_spec.specs.Joining.{slot_under}
 use Rattle.lxtr_spec.specs.Placing.{check_at, base_count, is_free, fits, first_fit, child_codes, below, end_value, put_children, put_parent, settle, into_each, place}
@@ -43,34 +42,34 @@ one_fit : (S : ℕ) (w cs : List ℕ) (a b : ℕ) → SmallestFit S w cs a → S
 one_fit S w cs a b f g = omega (arith, f.smallest b g.fits, g.smallest a f.fits)
 
 -- first fit finds it
-smallest_found : (S : ℕ) (w cs : List ℕ) (b : ℕ) → SmallestFit S w cs b → first_fit S w cs ≡ some b
+smallest_found : (S : ℕ) (w cs : List ℕ) (b : ℕ) → SmallestFit S w cs b → first_fit S w cs ≡ Some b
 smallest_found S w cs b f = go (first_fit S w cs) refl
   where
-    go : (o : Option ℕ) → first_fit S w cs ≡ o → first_fit S w cs ≡ some b
-    go none e = absurd (true≢false (sym (of_fits S w cs b f.fits) ∙ first_fit_none S w cs e b f.fits.base_in))
-    go (some r) e =
+    go : (o : Option ℕ) → first_fit S w cs ≡ o → first_fit S w cs ≡ Some b
+    go None e = absurd (true≢false (sym (of_fits S w cs b f.fits) ∙ first_fit_none S w cs e b f.fits.base_in))
+    go (Some r) e =
         let found = first_fit_some S w cs r e in
-        e ∙ ap some (one_fit S w cs r b (smallest_fit S w cs r found.1 found.0) f)
+        e ∙ ap Some (one_fit S w cs r b (smallest_fit S w cs r found.1 found.0) f)
 
 -- ---- going into the children
 
 module _ (R : ℕ → List ℕ → List ℕ → Type 0) where
-  in_turn : (f : ℕ → List ℕ → Option (List ℕ)) → ((c : ℕ) (w u : List ℕ) → f c w ≡ some u → R c w u) → (cs w u : List ℕ) → into_each f cs w ≡ some u → InTurn R cs w u
+  in_turn : (f : ℕ → List ℕ → Option (List ℕ)) → ((c : ℕ) (w u : List ℕ) → f c w ≡ Some u → R c w u) → (cs w u : List ℕ) → into_each f cs w ≡ Some u → InTurn R cs w u
   unfolding into_each InTurn
   in_turn f leads [] w u e = let q : w ≡ u = cc in q
   in_turn f leads (zero ∷ cs) w u e = in_turn f leads cs w u e
   in_turn f leads (suc c ∷ cs) w u e = go (λ v q. in_turn f leads cs v u q) (f (suc c) w) refl e
     where
-      go : ((v : List ℕ) → into_each f cs v ≡ some u → InTurn R cs v u) → (o : Option (List ℕ)) → f (suc c) w ≡ o
-          → (elim o as (λ _. Option (List ℕ)) [ none ↦ none | some v ↦ into_each f cs v ]) ≡ some u → InTurn R (suc c ∷ cs) w u
-      go rest none h q = absurd (let o : ◌≡◌ {A = ℕ} 0 1 = cc in omega arith)
-      go rest (some v) h q = (v, leads (suc c) w v h, rest v q)
+      go : ((v : List ℕ) → into_each f cs v ≡ Some u → InTurn R cs v u) → (o : Option (List ℕ)) → f (suc c) w ≡ o
+          → (elim o as (λ _. Option (List ℕ)) [ None ↦ None | Some v ↦ into_each f cs v ]) ≡ Some u → InTurn R (suc c ∷ cs) w u
+      go rest None h q = absurd (let o : ◌≡◌ {A = ℕ} 0 1 = cc in omega arith)
+      go rest (Some v) h q = (v, leads (suc c) w v h, rest v q)
 
-  turn_in : (f : ℕ → List ℕ → Option (List ℕ)) → ((c : ℕ) (w u : List ℕ) → R c w u → f c w ≡ some u) → (cs w u : List ℕ) → InTurn R cs w u → into_each f cs w ≡ some u
+  turn_in : (f : ℕ → List ℕ → Option (List ℕ)) → ((c : ℕ) (w u : List ℕ) → R c w u → f c w ≡ Some u) → (cs w u : List ℕ) → InTurn R cs w u → into_each f cs w ≡ Some u
   unfolding into_each InTurn
-  turn_in f leads [] w u e = ap some e
+  turn_in f leads [] w u e = ap Some e
   turn_in f leads (zero ∷ cs) w u e = turn_in f leads cs w u e
-  turn_in f leads (suc c ∷ cs) w u (v, r, e) = ap (λ (o : Option (List ℕ)). elim o as (λ _. Option (List ℕ)) [ none ↦ none | some x ↦ into_each f cs x ]) (leads (suc c) w v r) ∙ turn_in f leads cs v u e
+  turn_in f leads (suc c ∷ cs) w u (v, r, e) = ap (λ (o : Option (List ℕ)). elim o as (λ _. Option (List ℕ)) [ None ↦ None | Some x ↦ into_each f cs x ]) (leads (suc c) w v r) ∙ turn_in f leads cs v u e
 
 -- ---- placing
 
@@ -78,7 +77,7 @@ module _ (S : ℕ) (code label : ℕ → ℕ) where
   abbrev into : ℕ → ℕ → List Pair → ℕ → List ℕ → List ℕ → Type 0
   into k b g c v x = PlacedByFit S code label k (slot_under b c) (below (label c) g) v x
 
-  pub placed_by_fit : (k p : ℕ) (g : List Pair) (w u : List ℕ) → place S code label k p g w ≡ some u → PlacedByFit S code label k p g w u
+  pub placed_by_fit : (k p : ℕ) (g : List Pair) (w u : List ℕ) → place S code label k p g w ≡ Some u → PlacedByFit S code label k p g w u
   unfolding place PlacedByFit
   placed_by_fit zero p g w u e = let q : w ≡ u = cc in q
   placed_by_fit (suc k) p g w u e =
@@ -90,17 +89,17 @@ module _ (S : ℕ) (code label : ℕ → ℕ) where
         subst (λ (x : List ℕ). InTurn (into k n.base g) (child_codes code g []) x u) n.settled.is turns,
       )
 
-  pub fit_placed : (k p : ℕ) (g : List Pair) (w u : List ℕ) → PlacedByFit S code label k p g w u → place S code label k p g w ≡ some u
+  pub fit_placed : (k p : ℕ) (g : List Pair) (w u : List ℕ) → PlacedByFit S code label k p g w u → place S code label k p g w ≡ Some u
   unfolding place settle PlacedByFit
-  fit_placed zero p g w u e = ap some e
+  fit_placed zero p g w u e = ap Some e
   fit_placed (suc k) p g w u (b, f, e) =
       let cs : List ℕ = child_codes code g [] in
       let v : List ℕ = put_children p (end_value g) b cs (put_parent p b cs w) in
-      let settled : settle S p (end_value g) cs w ≡ some (b, v) =
-      ap (λ (o : Option ℕ). elim o as (λ _. Option (ℕ × List ℕ)) [ none ↦ none | some x ↦ some (x, put_children p (end_value g) x cs (put_parent p x cs w)) ]) (smallest_found S w cs b f) in
-      let gone : into_each (go_into S code label k b g) cs v ≡ some u =
+      let settled : settle S p (end_value g) cs w ≡ Some (b, v) =
+      ap (λ (o : Option ℕ). elim o as (λ _. Option (ℕ × List ℕ)) [ None ↦ None | Some x ↦ Some (x, put_children p (end_value g) x cs (put_parent p x cs w)) ]) (smallest_found S w cs b f) in
+      let gone : into_each (go_into S code label k b g) cs v ≡ Some u =
       turn_in (into k b g) (go_into S code label k b g) (λ c x y r. fit_placed k (slot_under b c) (below (label c) g) x y r) cs v u e in
-      ap (λ (o : Option (ℕ × List ℕ)). elim o as (λ _. Option (List ℕ)) [ none ↦ none | some s ↦ into_each (λ c w'. place S code label k (slot_under s.0 c) (below (label c) g) w') cs s.1 ]) settled ∙ gone
+      ap (λ (o : Option (ℕ × List ℕ)). elim o as (λ _. Option (List ℕ)) [ None ↦ None | Some s ↦ into_each (λ c w'. place S code label k (slot_under s.0 c) (below (label c) g) w') cs s.1 ]) settled ∙ gone
 
 -- ---- the highest taken slot
 

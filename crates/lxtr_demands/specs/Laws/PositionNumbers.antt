@@ -1,11 +1,10 @@
 -- Positions as numbers, for a host program in C. Every move keeps a position's three numbers so small that they are read back from
 -- the one number; so the host program's positions are the numbers of the library's, and its demand follows from the library's.
-use Rattle.std.specs.Prelude.{ℕ, ◌+◌, ◌*◌, ◌/◌, ◌%◌, ◌^◌, ◌<◌, ◌≡◌, List, [], ◌∷◌, cond, ltb, eqb}
+use Rattle.std.specs.Prelude.{ℕ, ◌+◌, ◌*◌, ◌/◌, ◌%◌, ◌^◌, ◌<◌, ◌≡◌, List, [], ◌∷◌, cond, ltb, eqb, Option, Some, None}
 use Rattle.std.proofs.Math.Nat.{div-div-eq-div-mul}
 use Rattle.std.proofs.Common.{div-add-mod', arith, sym, ◌∙◌, ltb-true}
 use Rattle.std.proofs.Math.Decide.{ℕ_discrete}
 use Rattle.std.proofs.Math.Path.{refl, ap}
-use Rattle.std.proofs.Math.Option.{Option, some, none}
 use Rattle.lxtr_spec.specs.Image.{parent}
 use Rattle.lxtr_spec.specs.Refusals.{unless_refused, header_refusal}
 use Rattle.lxtr_spec.specs.Searches.{case_value, case_longer}
@@ -73,8 +72,8 @@ module _ (b : List ℕ) (p : TypingPosition) (small : Small p) where
   more_small ok x few = go (slot_by b p x) refl
     where
       go : (o : Option ℕ) → slot_by b p x ≡ o → Small (one_more p o)
-      go none e = record { slot = small.slot; walked = small.walked; typed = omega (arith, typed_fits) }
-      go (some t) e =
+      go None e = record { slot = small.slot; walked = small.walked; typed = omega (arith, typed_fits) }
+      go (Some t) e =
           let ((all, within), s) = (slot_by_is b p x t).0 e in
           let (c, coded, stepped) = (step_by_is b p.slot x t).0 s in
           record { slot = omega (arith, stepped.below, ok.whole.sized.slots_to); walked = omega (arith, typed_fits); typed = omega (arith, typed_fits) }

@@ -1,11 +1,10 @@
 -- The lengths at which a query's prefixes are keys are found by a run over all lengths, so they come shortest first.
 -- The limit on the query's labels takes no prefix away, since no key is longer; the last of them is the longest.
-use Rattle.std.specs.Prelude.{ℕ, ◌+◌, ◌≤◌, ◌≡◌, ◌⊎◌, length, take, drop}
+use Rattle.std.specs.Prelude.{ℕ, ◌+◌, ◌≤◌, ◌≡◌, ◌⊎◌, length, take, drop, Option, Some, None}
 use Rattle.std.proofs.Common.{arith, sym, ap, ◌∙◌, inl, inr, take-append-drop, length-take, length-append, take-take, length-take-le}
 use Rattle.std.proofs.Math.Path.{refl}
 use mathlib.Core.List.Memᴰ
 use mathlib.Core.List.{List, [], ◌∷◌, ◌++◌, Memᴰ}
-use Rattle.std.proofs.Math.Option.{Option, some, none}
 use Rattle.std.proofs.Math.Seq.{take-append_seam}
 use Rattle.lxtr_spec.specs.Ranges.{concat_from}
 use Rattle.lxtr_spec.specs.Labels.{max_labels}
@@ -25,13 +24,13 @@ shorter_trans l m n h k = omega arith
 -- what one length gives
 match_sorted : (k : ℕ) (o : Option ℕ) → Sorted Shorter (length_match k o)
 unfolding length_match Sorted
-match_sorted k none = tt
-match_sorted k (some v) = sorted_one Shorter (k, v)
+match_sorted k None = tt
+match_sorted k (Some v) = sorted_one Shorter (k, v)
 
-match_is : (k : ℕ) (o : Option ℕ) (m : Match) → Memᴰ m (length_match k o) → (m.0 ≡ k) × (o ≡ some m.1)
+match_is : (k : ℕ) (o : Option ℕ) (m : Match) → Memᴰ m (length_match k o) → (m.0 ≡ k) × (o ≡ Some m.1)
 unfolding length_match
-match_is k none m i = absurd (Memᴰ.not-nil i)
-match_is k (some v) m i = let e : m ≡ (k, v) = Memᴰ.eq_of_singleton i in (ap (λ (z : Match). z.0) e, ap (λ (z : Match). some z.1) (sym e))
+match_is k None m i = absurd (Memᴰ.not-nil i)
+match_is k (Some v) m i = let e : m ≡ (k, v) = Memᴰ.eq_of_singleton i in (ap (λ (z : Match). z.0) e, ap (λ (z : Match). Some z.1) (sym e))
 
 module _ (d : PairSet) (ys : List ℕ) where
   matches_run : matches d ys ≡ concat_from (length ys + 1) 0 (match_at d ys)

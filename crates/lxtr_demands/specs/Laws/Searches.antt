@@ -1,9 +1,8 @@
 -- If 1 to 8 and 13 refuse nothing, the searches agree on the pairs that lookup finds.
 -- Within the limit no walk is cut short, so the values by which prefixes are defined are lookup's.
-use Rattle.std.specs.Prelude.{ℕ, ◌+◌, ◌*◌, ◌%◌, ◌≤◌, ◌≡◌, refl, List}
+use Rattle.std.specs.Prelude.{ℕ, ◌+◌, ◌*◌, ◌%◌, ◌≤◌, ◌≡◌, refl, List, Option, Some, None}
 use Rattle.std.proofs.Common.{arith, sym, ◌∙◌}
 use Rattle.std.proofs.Math.Path.{ap, fun_ext}
-use Rattle.std.proofs.Math.Option.{Option, some, none}
 use Rattle.std.proofs.Math.ListN.{length, take, length-take}
 use Rattle.std.proofs.Math.Seq.{length-take-le}
 use Rattle.lxtr_spec.specs.Ranges.{concat_from}
@@ -29,10 +28,10 @@ module _ (b : List ℕ) where
   value_reached_lem k = value_there b (walk_within b k)
 
   -- lookup finds no value beyond the limit
-  reached_limit : (k : List ℕ) (v : ℕ) (o : Option ℕ) → walk_within b k ≡ o → value_reached b o ≡ some v → length k ≤ max_labels
+  reached_limit : (k : List ℕ) (v : ℕ) (o : Option ℕ) → walk_within b k ≡ o → value_reached b o ≡ Some v → length k ≤ max_labels
   unfolding value_reached
-  reached_limit k v none e h = absurd (none_not_some h)
-  reached_limit k v (some t) e h = ((within_is b k t).0 e).0
+  reached_limit k v None e h = absurd (none_not_some h)
+  reached_limit k v (Some t) e h = ((within_is b k t).0 e).0
 
   pub value_limit_lem : (k : List ℕ) (v : ℕ) → Has (value_within b) k v → length k ≤ max_labels
   value_limit_lem k v h = reached_limit k v (walk_within b k) refl (sym (value_reached_lem k) ∙ h)

@@ -1,8 +1,7 @@
 -- The slots of an image of a set: where they are, the steps between them, and the walks that reach them.
 -- A slot below a prefix's slot is that of a longer prefix or the prefix's own end, so every walk reaches the slot of a prefix.
-use Rattle.std.specs.Prelude.{ℕ, ◌≤◌, ◌<◌, ◌≡◌, refl, List, [], ◌∷◌, ◌++◌}
+use Rattle.std.specs.Prelude.{ℕ, ◌≤◌, ◌<◌, ◌≡◌, refl, List, [], ◌∷◌, ◌++◌, Option, Some, None}
 use Rattle.std.proofs.Common.{arith, sym, ap, ◌∙◌, inl, inr, append_assoc}
-use Rattle.std.proofs.Math.Option.{Option, some, none}
 use Rattle.lxtr_spec.specs.Image.{slot_count, parent}
 use Rattle.lxtr_spec.specs.Walks.{walk, value_of}
 use Rattle.lxtr_spec.specs.Sets.{PairSet, Has, Prefix, Listed, ImageOf}
@@ -61,7 +60,7 @@ module _ {b : List ℕ} {d : PairSet} (image : ImageOf b d) where
   prefix_slot_lem p = lies_last p (last p)
 
   -- the labels of a prefix lead to its slot
-  walk_last : (p : List ℕ) → Last p → Prefix d p → walk b 1 p ≡ some (image.slot p)
+  walk_last : (p : List ℕ) → Last p → Prefix d p → walk b 1 p ≡ Some (image.slot p)
   walk_last p empty f = (walk_empty b (image.slot [])).1 (sym image.placed.root)
   walk_last p (snoc q x l) f =
       let s = prefix_step q x f in
@@ -73,7 +72,7 @@ module _ {b : List ℕ} {d : PairSet} (image : ImageOf b d) where
         stepped = s.stepped;
       })
 
-  pub walk_prefix : (p : List ℕ) → Prefix d p → walk b 1 p ≡ some (image.slot p)
+  pub walk_prefix : (p : List ℕ) → Prefix d p → walk b 1 p ≡ Some (image.slot p)
   walk_prefix p = walk_last p (last p)
 
   key_value : (k : List ℕ) (v : ℕ) → Has d k v → Has (value_of b) k v
@@ -127,14 +126,14 @@ module _ {b : List ℕ} {d : PairSet} (known : KnownImage b d) where
           (rw same at g, ap (λ (z : ℕ). image.slot (p ++ z ∷ [])) (sym same))
       go (ended v h) s = absurd (omega (arith, one_code (end_step image p v h) s, l.from))
 
-  walked_last : (p : List ℕ) → Last p → (t : ℕ) → walk b 1 p ≡ some t → Prefix d p × (image.slot p ≡ t)
+  walked_last : (p : List ℕ) → Last p → (t : ℕ) → walk b 1 p ≡ Some t → Prefix d p × (image.slot p ≡ t)
   walked_last p empty t e = (prefix_root d, image.placed.root ∙ (walk_empty b t).0 e)
   walked_last p (snoc q x l) t e =
       let r = (walk_snoc b q x t).0 e in
       let before = walked_last q l r.slot r.walked in
       step_prefix q x r.code t before.0 (code_listed b x r.code r.coded) (rw before.1 r.stepped)
 
-  pub walked : (p : List ℕ) (t : ℕ) → walk b 1 p ≡ some t → Prefix d p × (image.slot p ≡ t)
+  pub walked : (p : List ℕ) (t : ℕ) → walk b 1 p ≡ Some t → Prefix d p × (image.slot p ≡ t)
   walked p = walked_last p (last p)
 
   -- the walk finds the set's value for every key
@@ -148,6 +147,6 @@ module _ {b : List ℕ} {d : PairSet} (known : KnownImage b d) where
           (image.placed.slot_flag k s.0).0 (rw s.1 r.2.flag)
 
       go : (o : Option ℕ) → d k ≡ o → (u : Option ℕ) → value_of b k ≡ u → d k ≡ value_of b k
-      go (some v) e u f = e ∙ sym (key_value image k v e)
-      go none e none f = e ∙ sym f
-      go none e (some v) f = absurd (none_not_some (sym e ∙ (is_key v f).1))
+      go (Some v) e u f = e ∙ sym (key_value image k v e)
+      go None e None f = e ∙ sym f
+      go None e (Some v) f = absurd (none_not_some (sym e ∙ (is_key v f).1))

@@ -3,8 +3,7 @@
 use Prim.Native.Nat.{ℕ, ◌≤◌, zero, suc, ◌<◌}
 use Rattle.std.proofs.Math.Decide.{ℕ_discrete}
 use Rattle.std.proofs.Common.{arith, sym, ap, ◌∙◌, subst, inr, true≢false}
-use Rattle.std.specs.Prelude.{◌≡◌, refl, ◌≢◌, ◌↔◌, List, [], ◌∷◌, ◌++◌, Bool, true, false}
-use Rattle.std.proofs.Math.Option.{Option, some, none}
+use Rattle.std.specs.Prelude.{◌≡◌, refl, ◌≢◌, ◌↔◌, List, [], ◌∷◌, ◌++◌, Bool, true, false, Option, Some, None}
 use Rattle.lxtr_spec.specs.Labels.{value_limit}
 use Rattle.lxtr_spec.specs.Image.{slot_from, base_word, check_word, slot_count, is_leaf, has_leaf, parent, base, value_number, list_width}
 use Rattle.lxtr_spec.specs.Walks.{walk, value_of}
@@ -43,7 +42,7 @@ module _ {b : List ℕ} (ok : Accepted b) where
       no_parent (suc zero) k e = root
       no_parent (suc (suc t)) k e = unused (suc (suc t)) ((ok.slots (suc (suc t)) k).unused (omega arith) e)
 
-      child : UsedFrom2 b s → ((p : List ℕ) × (walk b 1 p ≡ some (parent b s))) → (a : Bool) → is_leaf b s ≡ a → IsKind s
+      child : UsedFrom2 b s → ((p : List ℕ) × (walk b 1 p ≡ Some (parent b s))) → (a : Bool) → is_leaf b s ≡ a → IsKind s
       child u (p, w) true e =
           let r = leaf_child ok p (parent b s) s w l refl e in
           subst IsKind (ap (λ (i : ℕ). slot_from b i 0) (walk_slot b p (parent b s) w) ∙ sym r.1) (leaf p (value_number b s) r.0)
@@ -57,7 +56,7 @@ module _ {b : List ℕ} (ok : Accepted b) where
       go (no h) = let u = has_parent_lem ok s h in child u (parent_walk ok s l u) (is_leaf b s) refl
 
   -- if the set is empty, slot 1 has base 0
-  empty_root : ((k : List ℕ) → value_of b k ≡ none) → base b 1 ≡ 0
+  empty_root : ((k : List ℕ) → value_of b k ≡ None) → base b 1 ≡ 0
   empty_root h =
       let childless : ¬ (1 ≤ list_width b 1) = λ l. let k = on_to_key ok [] 1 ((walk_empty b 1).1 refl) (λ e. omega arith) in none_not_some (sym (h k.0) ∙ k.2) in
       ok.lists.root (omega arith)
@@ -92,10 +91,10 @@ module _ {b : List ℕ} (ok : Accepted b) where
 
   placed : Placed b (value_of b) (slot_at b) (end_at b)
   placed = record {
-    slots_differ = λ p q f g e. walk_once ok p q (slot_at b p) (prefix_walk b p f) (prefix_walk b q g ∙ ap {B = Option ℕ} some (sym e));
+    slots_differ = λ p q f g e. walk_once ok p q (slot_at b p) (prefix_walk b p f) (prefix_walk b q g ∙ ap {B = Option ℕ} Some (sym e));
     ends_differ = λ k l v w g h e.
         walk_once ok k l (slot_at b k) (key_walk b k v g)
-        (key_walk b l w h ∙ ap {B = Option ℕ} some (sym (end_step b l w h).up ∙ ap (parent b) (sym e) ∙ (end_step b k v g).up));
+        (key_walk b l w h ∙ ap {B = Option ℕ} Some (sym (end_step b l w h).up ∙ ap (parent b) (sym e) ∙ (end_step b k v g).up));
     slot_no_end = λ p k v f h e. true≢false (sym (ap (is_leaf b) e ∙ end_leaf b k v h) ∙ (prefix_reached ok p f).inner);
     root = root_slot b;
     slot_in = λ p x f. let s = prefix_step b p x f in ((step_used ok (prefix_reached ok p (prefix_part (value_of b) p (x ∷ []) f)).from s.2).0, s.2.below);

@@ -1,12 +1,11 @@
 -- Label by label, a walk goes on to the end or stops at a first place, and the reason is read off there. Only this reason is true,
 -- because the walk of a front part has one outcome. Over an image the labels that walk are the prefixes of its set's keys.
-use Rattle.std.specs.Prelude.{ℕ, zero, suc, ◌+◌, ◌≤◌, ◌<◌, ◌≡◌, ◌↔◌, ◌⊎◌, List, [], ◌∷◌, ◌++◌, length, take, get_or}
+use Rattle.std.specs.Prelude.{ℕ, zero, suc, ◌+◌, ◌≤◌, ◌<◌, ◌≡◌, ◌↔◌, ◌⊎◌, List, [], ◌∷◌, ◌++◌, length, take, get_or, Option, Some, None}
 use Rattle.std.proofs.Math.Decide.{dec_lt}
 use Rattle.std.proofs.Common.{add-one, arith, sym, ap, ◌∙◌, append-nil, length-append, length-take-le}
 use Rattle.std.proofs.Math.Path.{refl}
 use Rattle.std.proofs.Math.Logic.{inl, inr, ⊎_elim}
 use Rattle.std.proofs.Math.Logic.Iff as Iff
-use Rattle.std.proofs.Math.Option.{Option, some, none}
 use Rattle.std.proofs.Math.Seq.{take-length}
 use Rattle.lxtr_spec.specs.Labels.{max_labels, labels_of}
 use Rattle.lxtr_spec.specs.Image.{code_of}
@@ -38,17 +37,17 @@ module _ (b xs : List ℕ) where
     place : ℕ
     slot : ℕ
     below : place < length xs
-    reached : walk b 1 (take place xs) ≡ some slot
-    stays : step_by b slot (get_or xs place 0) ≡ none
+    reached : walk b 1 (take place xs) ≡ Some slot
+    stays : step_by b slot (get_or xs place 0) ≡ None
 
   -- the first k labels walk, or the walk stops before
   goes : (k : ℕ) → k ≤ length xs → Stop ⊎ Walks b (take k xs)
   goes zero h = inr (1, (walk_empty b 1).1 refl)
   goes (suc k) h = ⊎_elim inl (λ (n, e). go n e (step_by b n (get_or xs k 0)) refl) (goes k (omega arith))
     where
-      go : (n : ℕ) → walk b 1 (take k xs) ≡ some n → (o : Option ℕ) → step_by b n (get_or xs k 0) ≡ o → Stop ⊎ Walks b (take (suc k) xs)
-      go n e none f = inl (record { place = k; slot = n; below = h; reached = e; stays = f })
-      go n e (some t) f = inr (t, rw (← (add-one k)) (walk_on b xs k n h e t f))
+      go : (n : ℕ) → walk b 1 (take k xs) ≡ Some n → (o : Option ℕ) → step_by b n (get_or xs k 0) ≡ o → Stop ⊎ Walks b (take (suc k) xs)
+      go n e None f = inl (record { place = k; slot = n; below = h; reached = e; stays = f })
+      go n e (Some t) f = inr (t, rw (← (add-one k)) (walk_on b xs k n h e t f))
 
   stops_at : length xs ≤ max_labels → (s : Stop) → StopsAt b xs s.place
   stops_at few s = record {
@@ -62,16 +61,16 @@ module _ (b xs : List ℕ) where
   stop_at : (i : ℕ) → StopsAt b xs i → (s : Stop) × (s.place ≡ i)
   stop_at i s = let (n, e) = s.walks i (omega arith) in go n e (step_by b n (get_or xs i 0)) refl
     where
-      go : (n : ℕ) → walk b 1 (take i xs) ≡ some n → (o : Option ℕ) → step_by b n (get_or xs i 0) ≡ o → (s : Stop) × (s.place ≡ i)
-      go n e none f = (record { place = i; slot = n; below = s.place; reached = e; stays = f }, refl)
-      go n e (some t) f = absurd (s.stops (i + 1) (omega arith) (t, walk_on b xs i n s.place e t f))
+      go : (n : ℕ) → walk b 1 (take i xs) ≡ Some n → (o : Option ℕ) → step_by b n (get_or xs i 0) ≡ o → (s : Stop) × (s.place ≡ i)
+      go n e None f = (record { place = i; slot = n; below = s.place; reached = e; stays = f }, refl)
+      go n e (Some t) f = absurd (s.stops (i + 1) (omega arith) (t, walk_on b xs i n s.place e t f))
 
   -- the value that lookup finds is that of the slot reached
-  is_value_at : length xs ≤ max_labels → (n : ℕ) → walk b 1 xs ≡ some n → value_within b xs ≡ value_at b n
+  is_value_at : length xs ≤ max_labels → (n : ℕ) → walk b 1 xs ≡ Some n → value_within b xs ≡ value_at b n
   unfolding value_of value_reached
   is_value_at few n e = value_within_lem b xs few ∙ rw e
 
-  value_walks : (v : ℕ) → value_within b xs ≡ some v → (length xs ≤ max_labels) × Walks b xs
+  value_walks : (v : ℕ) → value_within b xs ≡ Some v → (length xs ≤ max_labels) × Walks b xs
   value_walks v e =
       let few = value_limit_lem b xs v e in
       let r = (value_of_is b xs v).0 (sym (value_within_lem b xs few) ∙ e) in
@@ -84,21 +83,21 @@ module _ (b xs : List ℕ) where
   unfolding stopped_at
   told i = go (code_of b (get_or xs i 0)) refl
     where
-      go : (o : Option ℕ) → code_of b (get_or xs i 0) ≡ o → (let r : Reason = elim o [ none ↦ NotListed i | some c ↦ NoStep i ] in
+      go : (o : Option ℕ) → code_of b (get_or xs i 0) ≡ o → (let r : Reason = elim o [ None ↦ NotListed i | Some c ↦ NoStep i ] in
           ((r ≡ NotListed i) × (ListedAt b xs i → ⊥)) ⊎ ((r ≡ NoStep i) × ListedAt b xs i))
-      go none f = inl (refl, λ (c, l). code_missing b (get_or xs i 0) f c l)
-      go (some c) f = inr (refl, (c, code_listed b (get_or xs i 0) c f))
+      go None f = inl (refl, λ (c, l). code_missing b (get_or xs i 0) f c l)
+      go (Some c) f = inr (refl, (c, code_listed b (get_or xs i 0) c f))
 
   stopped_true : length xs ≤ max_labels → (s : Stop) → TrueReason b xs (stopped_at b s.place (get_or xs s.place 0))
   stopped_true few s = ⊎_elim (λ (e, out). rw e (stops_at few s, out)) (λ (e, is). rw e (stops_at few s, is)) (told s.place)
 
-  ended_true : length xs ≤ max_labels → (n : ℕ) → walk b 1 xs ≡ some n → TrueReason b xs (ended_with (value_at b n))
+  ended_true : length xs ≤ max_labels → (n : ℕ) → walk b 1 xs ≡ Some n → TrueReason b xs (ended_with (value_at b n))
   unfolding ended_with
   ended_true few n e = go (value_at b n) (is_value_at few n e)
     where
       go : (o : Option ℕ) → value_within b xs ≡ o → TrueReason b xs (ended_with o)
-      go none f = (few, (n, e), f)
-      go (some v) f = (v, f)
+      go None f = (few, (n, e), f)
+      go (Some v) f = (v, f)
 
   reason_true : TrueReason b xs (reason_of b xs)
   reason_true = go (dec_lt max_labels (length xs))
@@ -125,10 +124,10 @@ module _ (b xs : List ℕ) where
   only_reason : (r : Reason) → TrueReason b xs r → reason_of b xs ≡ r
   unfolding ended_with
   only_reason NoReason t = absurd t
-  only_reason IsFound (v, e) = let r = value_walks v e in reason_ended (some v) r.0 r.1 e
+  only_reason IsFound (v, e) = let r = value_walks v e in reason_ended (Some v) r.0 r.1 e
   only_reason (NotListed i) (s, out) = reason_stopped i s ∙ ⊎_elim (λ (e, _). e) (λ (_, is). absurd (out is)) (told i)
   only_reason (NoStep i) (s, is) = reason_stopped i s ∙ ⊎_elim (λ (_, out). absurd (out is)) (λ (e, _). e) (told i)
-  only_reason NoKeyEnds (few, w, e) = reason_ended none few w e
+  only_reason NoKeyEnds (few, w, e) = reason_ended None few w e
   only_reason TooLong h = reason_too_long b xs h
 
 -- ---- over an image of the set d
@@ -163,7 +162,7 @@ module _ {b : List ℕ} {d : PairSet} (image : ImageOf b d) (xs : List ℕ) wher
   )
 
   -- the labels are no key, but they walk
-  no_end : d xs ≡ none → Prefix d xs → (xs ≡ []) ⊎ Longer d xs
+  no_end : d xs ≡ None → Prefix d xs → (xs ≡ []) ⊎ Longer d xs
   no_end e f = ⊎_elim inl (λ (r, v, h). go r v h) f.is
     where
       go : (r : List ℕ) (v : ℕ) → Has d (xs ++ r) v → (xs ≡ []) ⊎ Longer d xs
@@ -190,15 +189,15 @@ module _ {b : List ℕ} {d : PairSet} (image : ImageOf b d) (xs : List ℕ) wher
 
 -- ---- the definitions meet the demand
 
-found_exactly : (b xs : List ℕ) → (reason_of b xs ≡ IsFound) ↔ ((v : ℕ) × (value_within b xs ≡ some v))
+found_exactly : (b xs : List ℕ) → (reason_of b xs ≡ IsFound) ↔ ((v : ℕ) × (value_within b xs ≡ Some v))
 found_exactly b xs = (λ e. rw e at (reason_true b xs), only_reason b xs IsFound)
 
 no_reason_found : NoReason ≡ IsFound → ⊥
 unfolding reason_number
 no_reason_found e = omega (arith, ap reason_number e)
 
-unless_found : (k : ℕ) (r : Reason) (c : Case) → (r ≡ IsFound) ↔ ((v : ℕ) × (case_value c ≡ some v))
-    → (unless_refused k r NoReason ≡ IsFound) ↔ ((v : ℕ) × (case_value (unless_refused k c Neither) ≡ some v))
+unless_found : (k : ℕ) (r : Reason) (c : Case) → (r ≡ IsFound) ↔ ((v : ℕ) × (case_value c ≡ Some v))
+    → (unless_refused k r NoReason ≡ IsFound) ↔ ((v : ℕ) × (case_value (unless_refused k c Neither) ≡ Some v))
 unfolding unless_refused case_value
 unless_found zero r c h = h
 unless_found (suc k) r c h = (λ e. absurd (no_reason_found e), λ (v, e). absurd (none_not_some e))

@@ -1,14 +1,13 @@
 -- A position belongs to the list of labels typed: its labels walked are the longest front part of the list, within the limit of a
 -- key, that reaches a slot. Every move keeps that, and a list has one such position. If all labels were walked, its place is the slot
 -- that lookup's walk reaches; if not, that walk fails.
-use Rattle.std.specs.Prelude.{ℕ, ◌+◌, ◌-◌, ◌%◌, ◌≤◌, ◌<◌, ◌≡◌, ◌≢◌, Bool, true, false, cond, ltb, eqb, take}
+use Rattle.std.specs.Prelude.{ℕ, ◌+◌, ◌-◌, ◌%◌, ◌≤◌, ◌<◌, ◌≡◌, ◌≢◌, Bool, true, false, cond, ltb, eqb, take, Option, Some, None}
 use Rattle.std.proofs.Math.Decide.{ℕ_discrete}
 use native.Mathlib.Omega.{arith}
 use Rattle.std.proofs.Math.Path.{refl, ap}
 use Rattle.std.proofs.Common.{sym, ◌∙◌}
 use Rattle.std.proofs.Math.Logic.{⊎_elim}
 use mathlib.Core.List.{List, [], ◌∷◌, ◌++◌}
-use Rattle.std.proofs.Math.Option.{Option, some, none}
 use Rattle.std.proofs.Math.ListN.{length}
 use Rattle.std.proofs.Math.Seq.{take-append_seam}
 use borrow.Author.Tests.{lt-ltb, le-ltb, eq-eqb, ne_eqb, eqb-true, eqb-false}
@@ -20,7 +19,7 @@ use Rattle.lxtr_spec.specs.Walks.{walk, walk_within}
 use Rattle.lxtr_spec.specs.Searches.{case_at, case_within, lookup_of}
 use Rattle.lxtr_spec.specs.declared.Case.{Case}
 use Rattle.lxtr_spec.specs.declared.Case.TheVariants.{Neither}
-use Rattle.lxtr_spec.specs.declared.Lookup.{Lookup}
+use Rattle.lxtr_spec.specs.Searches.{Lookup}
 use Rattle.lxtr_spec.specs.Positions.{TypingPosition, fresh_position, all_walked, slot_by, one_more, max_typed, pushed, one_less, taken_back, is_placed, MoveAnswer, move_answer, moved_to, push_of, back_of, reached_slot, position_lookup_of}
 use Rattle.lxtr_laws.specs.Tests.{cond_holds}
 use Rattle.lxtr_laws.specs.RangeTests.{below_suc}
@@ -44,7 +43,7 @@ record At (b xs : List ℕ) (p : TypingPosition) : Type 0 where
   longest : (k t : ℕ) → k ≤ max_labels → Walked b xs k t → k ≤ p.walked
 
 -- a front part that is the whole list
-all_reach : {b xs : List ℕ} {k t : ℕ} → Walked b xs k t → length xs ≤ k → walk b 1 xs ≡ some t
+all_reach : {b xs : List ℕ} {k t : ℕ} → Walked b xs k t → length xs ≤ k → walk b 1 xs ≡ Some t
 all_reach {b} {xs} {k} {t} w h = sym (walk_ended b xs (length xs) k t refl w h)
 
 -- a list has one position
@@ -71,7 +70,7 @@ module _ (b : List ℕ) (passes : header_refusal b ≡ 0) where
   -- one label more
   module _ (xs : List ℕ) (p : TypingPosition) (a : At b xs p) (x : ℕ) where
     -- the step reaches slot t
-    more_walked : (t : ℕ) → slot_by b p x ≡ some t → At b (xs ++ x ∷ []) (one_more p (some t))
+    more_walked : (t : ℕ) → slot_by b p x ≡ Some t → At b (xs ++ x ∷ []) (one_more p (Some t))
     unfolding one_more
     more_walked t e =
         let ((all, few), s) = (slot_by_is b p x t).0 e in
@@ -86,7 +85,7 @@ module _ (b : List ℕ) (passes : header_refusal b ≡ 0) where
         }
 
     -- a walk along all labels and this one, within the limit, ends with that step
-    last_step : (t : ℕ) → length xs < max_labels → walk b 1 (xs ++ x ∷ []) ≡ some t → slot_by b p x ≡ some t
+    last_step : (t : ℕ) → length xs < max_labels → walk b 1 (xs ++ x ∷ []) ≡ Some t → slot_by b p x ≡ Some t
     last_step t few e =
         let l = (walk_snoc b xs x t).0 e in
         let up = a.longest (length xs) l.slot (omega arith) (walked_whole b xs ok l.slot l.walked) in
@@ -94,7 +93,7 @@ module _ (b : List ℕ) (passes : header_refusal b ≡ 0) where
         (slot_by_is b p x t).1 ((omega (arith, a.typed, a.front.so_far), omega (arith, a.typed)), (step_by_is b p.slot x t).1 (l.code, l.coded, rw same at l.stepped))
 
     -- so a label without a step only counts
-    more_counted : slot_by b p x ≡ none → At b (xs ++ x ∷ []) (one_more p none)
+    more_counted : slot_by b p x ≡ None → At b (xs ++ x ∷ []) (one_more p None)
     unfolding one_more
     more_counted e =
         let size = length_snoc xs x in
@@ -113,8 +112,8 @@ module _ (b : List ℕ) (passes : header_refusal b ≡ 0) where
     push_at = rw (← a.typed) (both (ltb p.typed max_typed))
       where
         more : (o : Option ℕ) → slot_by b p x ≡ o → At b (xs ++ x ∷ []) (one_more p o)
-        more none = more_counted
-        more (some t) = more_walked t
+        more None = more_counted
+        more (Some t) = more_walked t
 
         both : (t : Bool) → At b (cond t (xs ++ x ∷ []) xs) (cond t (one_more p (slot_by b p x)) p)
         both true = more (slot_by b p x) refl

@@ -1,8 +1,8 @@
 -- The slots that walks reach: a prefix's slot is the one that its labels reach, a key's end the one that code 0 reaches from there.
 -- Over accepted bytes no two prefixes reach one slot: its parent and own code determine the last label, and so on back to slot 1.
-use Rattle.std.specs.Prelude.{ℕ, ◌≡◌, refl, ◌⊎◌, List, [], ◌∷◌, ◌++◌, true}
+use Rattle.std.specs.Prelude.{ℕ, ◌≡◌, refl, ◌⊎◌, List, [], ◌∷◌, ◌++◌, true, Option, Some}
 use Rattle.std.proofs.Common.{arith, sym, ap, ◌∙◌, inl, inr}
-use Rattle.std.proofs.Math.Option.{Option, some, get_or}
+use Rattle.std.proofs.Math.Option.{get_or}
 use Rattle.lxtr_spec.specs.Image.{slot_from, is_leaf, parent, code_of}
 use Rattle.lxtr_spec.specs.Walks.{walk, value_of}
 use Rattle.lxtr_spec.specs.Sets.{Has, Prefix}
@@ -19,7 +19,7 @@ unfoldable pub end_at : List ℕ → List ℕ → ℕ
 end_at b k = slot_from b (slot_at b k) 0
 
 module _ (b : List ℕ) where
-  pub walk_slot : (p : List ℕ) (n : ℕ) → walk b 1 p ≡ some n → slot_at b p ≡ n
+  pub walk_slot : (p : List ℕ) (n : ℕ) → walk b 1 p ≡ Some n → slot_at b p ≡ n
   unfolding slot_at
   walk_slot p n e = rw e
 
@@ -27,13 +27,13 @@ module _ (b : List ℕ) where
   root_slot = walk_slot [] 1 ((walk_empty b 1).1 refl)
 
   -- the labels of a prefix lead to its slot
-  pub prefix_walk : (p : List ℕ) → Prefix (value_of b) p → walk b 1 p ≡ some (slot_at b p)
+  pub prefix_walk : (p : List ℕ) → Prefix (value_of b) p → walk b 1 p ≡ Some (slot_at b p)
   prefix_walk p f = go f.is
     where
-      to : (n : ℕ) → walk b 1 p ≡ some n → walk b 1 p ≡ some (slot_at b p)
-      to n e = e ∙ ap {B = Option ℕ} some (sym (walk_slot p n e))
+      to : (n : ℕ) → walk b 1 p ≡ Some n → walk b 1 p ≡ Some (slot_at b p)
+      to n e = e ∙ ap {B = Option ℕ} Some (sym (walk_slot p n e))
 
-      go : (p ≡ []) ⊎ GoesOn (value_of b) p → walk b 1 p ≡ some (slot_at b p)
+      go : (p ≡ []) ⊎ GoesOn (value_of b) p → walk b 1 p ≡ Some (slot_at b p)
       go (inl e) = to 1 (ap (walk b 1) e ∙ (walk_empty b 1).1 refl)
       go (inr (r, v, e)) =
           let x = (value_of_is b (p ++ r) v).0 e in
@@ -41,13 +41,13 @@ module _ (b : List ℕ) where
           to w.0 w.1
 
   -- the last step to a prefix
-  pub prefix_step : (p : List ℕ) (x : ℕ) → Prefix (value_of b) (p ++ x ∷ []) → (c : ℕ) × (code_of b x ≡ some c) × Stepped b (slot_at b p) c (slot_at b (p ++ x ∷ []))
+  pub prefix_step : (p : List ℕ) (x : ℕ) → Prefix (value_of b) (p ++ x ∷ []) → (c : ℕ) × (code_of b x ≡ Some c) × Stepped b (slot_at b p) c (slot_at b (p ++ x ∷ []))
   prefix_step p x f =
       let r = (walk_snoc b p x (slot_at b (p ++ x ∷ []))).0 (prefix_walk (p ++ x ∷ []) f) in
       (r.code, r.coded, rw (walk_slot p r.slot r.walked) r.stepped)
 
   module _ (k : List ℕ) (v : ℕ) (h : Has (value_of b) k v) where
-    pub key_walk : walk b 1 k ≡ some (slot_at b k)
+    pub key_walk : walk b 1 k ≡ Some (slot_at b k)
     key_walk = prefix_walk k (prefix_key (value_of b) k v h)
 
     -- a key's value is at its end
@@ -72,11 +72,11 @@ module _ {b : List ℕ} (ok : Accepted b) where
   key_reached k v h = prefix_reached k (prefix_key (value_of b) k v h)
 
   -- no step leads to slot 1
-  root_no_step : (r : List ℕ) (y n : ℕ) → 1 ≡ n → walk b 1 (r ++ y ∷ []) ≡ some n → ⊥
+  root_no_step : (r : List ℕ) (y n : ℕ) → 1 ≡ n → walk b 1 (r ++ y ∷ []) ≡ Some n → ⊥
   root_no_step r y n z e = let w = (walk_snoc b r y n).0 e in omega (arith, w.stepped.up, root_parent ok, ap (parent b) z, (reached ok r w.slot w.walked).from)
 
   -- two walks to one slot have the same labels
-  once_last : (p : List ℕ) → Last p → (q : List ℕ) → Last q → (n : ℕ) → walk b 1 p ≡ some n → walk b 1 q ≡ some n → p ≡ q
+  once_last : (p : List ℕ) → Last p → (q : List ℕ) → Last q → (n : ℕ) → walk b 1 p ≡ Some n → walk b 1 q ≡ Some n → p ≡ q
   once_last p empty q empty n e f = refl
   once_last p empty q (snoc r y m) n e f = absurd (root_no_step r y n ((walk_empty b n).0 e) f)
   once_last p (snoc r x l) q empty n e f = absurd (root_no_step r x n ((walk_empty b n).0 f) e)
@@ -84,10 +84,10 @@ module _ {b : List ℕ} (ok : Accepted b) where
       let w = (walk_snoc b r x n).0 e in
       let u = (walk_snoc b s y n).0 f in
       let same-slot : u.slot ≡ w.slot = sym u.stepped.up ∙ w.stepped.up in
-      let same-prefix : r ≡ s = once_last r l s m w.slot w.walked (u.walked ∙ ap {B = Option ℕ} some same-slot) in
+      let same-prefix : r ≡ s = once_last r l s m w.slot w.walked (u.walked ∙ ap {B = Option ℕ} Some same-slot) in
       let same_code : u.code ≡ w.code = one_code (rw same-slot at u.stepped) w.stepped in
       let same_label_lem : x ≡ y = listed_same b x y w.code (code_listed b x w.code w.coded) (rw same_code at (code_listed b y u.code u.coded)) in
       ap (λ (t : List ℕ). t ++ x ∷ []) same-prefix ∙ ap (λ (t : ℕ). s ++ t ∷ []) same_label_lem
 
-  pub walk_once : (p q : List ℕ) (n : ℕ) → walk b 1 p ≡ some n → walk b 1 q ≡ some n → p ≡ q
+  pub walk_once : (p q : List ℕ) (n : ℕ) → walk b 1 p ≡ Some n → walk b 1 q ≡ Some n → p ≡ q
   walk_once p q = once_last p (last p) q (last q)

@@ -2,10 +2,9 @@
 -- A child is the end of the walk's key, or the slot one label further; the steps to the parent bound how far this continues.
 use Prim.Native.Nat.{ℕ, zero, suc, ◌+◌, ◌≤◌, ◌<◌}
 use Rattle.std.proofs.Common.{le_refl, arith, ◌∙◌, inl, inr, eqb-true, ne_eqb}
-use Rattle.std.specs.Prelude.{◌≡◌, ◌≢◌, Bool, true, length, eqb}
+use Rattle.std.specs.Prelude.{◌≡◌, ◌≢◌, Bool, true, length, eqb, Some}
 use Rattle.std.proofs.Math.Path.{refl, sym, ap}
 use mathlib.Core.List.{List, [], ◌∷◌, ◌++◌, append_assoc, append-nil}
-use Rattle.std.proofs.Math.Option.{some}
 use Rattle.std.proofs.Math.Bool.{false}
 use Rattle.std.proofs.lemmas.Bool.{eqb-false}
 use Rattle.lxtr_spec.specs.Labels.{max_labels, length_count}
@@ -49,7 +48,7 @@ module _ {b : List ℕ} (ok : Accepted b) where
     pub step_leaf : is_leaf b t ≡ eqb c 0
     step_leaf = rw (own_code_lem s) at ((ok.slots t s.below).used step_used).leaf_code
 
-  reached_last : (p : List ℕ) → Last p → (n : ℕ) → walk b 1 p ≡ some n → WalkSlot b n
+  reached_last : (p : List ℕ) → Last p → (n : ℕ) → walk b 1 p ≡ Some n → WalkSlot b n
   reached_last p empty n e =
       let two = ok.framed.slots.0 in
       rw (← ((walk_empty b n).0 e)) (record { from = le_refl 1; to = two; inner = ((ok.slots 1 two).root refl).0 })
@@ -62,7 +61,7 @@ module _ {b : List ℕ} (ok : Accepted b) where
         inner = step_leaf before.from r.stepped ∙ ne_eqb r.code 0 (omega (arith, (code_listed b x r.code r.coded).from));
       }
 
-  pub reached : (p : List ℕ) (n : ℕ) → walk b 1 p ≡ some n → WalkSlot b n
+  pub reached : (p : List ℕ) (n : ℕ) → walk b 1 p ≡ Some n → WalkSlot b n
   reached p = reached_last p (last p)
 
   ancestor_zero : (k : ℕ) → ancestor b k 0 ≡ 0
@@ -84,7 +83,7 @@ module _ {b : List ℕ} (ok : Accepted b) where
   steps_once (suc i) (suc j) s e f = ap suc (steps_once i j (parent b s) e f)
 
   -- a child t of the slot n to which the labels p lead
-  module _ (p : List ℕ) (n t : ℕ) (w : walk b 1 p ≡ some n) (l : t < slot_count b) (up : parent b t ≡ n) where
+  module _ (p : List ℕ) (n t : ℕ) (w : walk b 1 p ≡ Some n) (l : t < slot_count b) (up : parent b t ≡ n) where
     pub child_used : UsedFrom2 b t
     child_used = has_parent_lem t (λ e. omega (arith, (reached p n w).from))
 
@@ -112,23 +111,23 @@ module _ {b : List ℕ} (ok : Accepted b) where
         let flag = (ok.slots n r.to).flag r.from ∙ (end_exists_lem b n).1 (rw z s) in
         ((value_of_is b p (value_number b t)).1 (n, w, record { flag = flag; slot = t; stepped = s; leaf = e; value = refl }), s.at)
 
-    pub inner_child : is_leaf b t ≡ false → (x : ℕ) × (walk b 1 (p ++ x ∷ []) ≡ some t)
+    pub inner_child : is_leaf b t ≡ false → (x : ℕ) × (walk b 1 (p ++ x ∷ []) ≡ Some t)
     inner_child e =
         let c : own_code b t ≢ 0 = eqb-false (own_code b t) 0 (sym child_right.leaf_code ∙ e) in
         let x : ℕ = label_of_code b (own_code b t) in
         let g : Listed b x (own_code b t) = record { from = omega arith; to = child_right.code_listed; label = refl } in
         (x, (walk_snoc b p x t).1 (record { slot = n; code = own_code b t; walked = w; coded = listed_code b x (own_code b t) ok.framed g; stepped = child_step }))
 
-  first_entry : (p : List ℕ) (n : ℕ) → walk b 1 p ≡ some n → list_width b n ≢ 0 → EntryRight b n (offset b n)
+  first_entry : (p : List ℕ) (n : ℕ) → walk b 1 p ≡ Some n → list_width b n ≢ 0 → EntryRight b n (offset b n)
   first_entry p n w h = ok.lists.entry n (offset b n) (reached p n w).to ((in_list b n (offset b n)).1 (omega arith))
 
   -- a slot that a walk reaches and that has a child is on the way to a key; f is how many labels are still allowed
-  key_below : (f : ℕ) (p : List ℕ) (n : ℕ) → walk b 1 p ≡ some n → list_width b n ≢ 0 → max_labels < length p + f → GoesOn (value_of b) p
+  key_below : (f : ℕ) (p : List ℕ) (n : ℕ) → walk b 1 p ≡ Some n → list_width b n ≢ 0 → max_labels < length p + f → GoesOn (value_of b) p
   key_below zero p n w h k = let e = first_entry p n w h in absurd (omega (arith, child_depth p n (child b (offset b n)) w e.to e.up))
   key_below (suc f) p n w h k = let e = first_entry p n w h in by_child (child b (offset b n)) e.to e.up (key_below f) (is_leaf b (child b (offset b n))) refl
     where
       by_child : (t : ℕ) → t < slot_count b → parent b t ≡ n
-          → ((q : List ℕ) (m : ℕ) → walk b 1 q ≡ some m → list_width b m ≢ 0 → max_labels < length q + f → GoesOn (value_of b) q)
+          → ((q : List ℕ) (m : ℕ) → walk b 1 q ≡ Some m → list_width b m ≢ 0 → max_labels < length q + f → GoesOn (value_of b) q)
           → (a : Bool) → is_leaf b t ≡ a → GoesOn (value_of b) p
       by_child t l up ih true e = ([], value_number b t, rw append-nil (leaf_child p n t w l up e).0)
       by_child t l up ih false e =
@@ -136,16 +135,16 @@ module _ {b : List ℕ} (ok : Accepted b) where
           let r = ih (p ++ x.0 ∷ []) t x.1 (ok.lists.parents t l (child_used p n t w l up) e) (omega (arith, length_snoc p x.0)) in
           (x.0 ∷ r.0, r.1, rw append_assoc at r.2)
 
-  pub on_to_key : (p : List ℕ) (n : ℕ) → walk b 1 p ≡ some n → list_width b n ≢ 0 → GoesOn (value_of b) p
+  pub on_to_key : (p : List ℕ) (n : ℕ) → walk b 1 p ≡ Some n → list_width b n ≢ 0 → GoesOn (value_of b) p
   on_to_key p n w h = key_below length_count p n w h (omega arith)
 
   -- a walk reaches every used slot that is not a leaf and from which steps to the parent lead to slot 1
-  walk_down : (k s : ℕ) → ancestor b k s ≡ 1 → s < slot_count b → Used b s → is_leaf b s ≡ false → (p : List ℕ) × (walk b 1 p ≡ some s)
+  walk_down : (k s : ℕ) → ancestor b k s ≡ 1 → s < slot_count b → Used b s → is_leaf b s ≡ false → (p : List ℕ) × (walk b 1 p ≡ Some s)
   unfolding ancestor
   walk_down zero s e l u i = ([], (walk_empty b s).1 (sym e))
   walk_down (suc k) s e l u i = go (walk_down k (parent b s) e) u
     where
-      go : (parent b s < slot_count b → Used b (parent b s) → is_leaf b (parent b s) ≡ false → (p : List ℕ) × (walk b 1 p ≡ some (parent b s))) → Used b s → (p : List ℕ) × (walk b 1 p ≡ some s)
+      go : (parent b s < slot_count b → Used b (parent b s) → is_leaf b (parent b s) ≡ false → (p : List ℕ) × (walk b 1 p ≡ Some (parent b s))) → Used b s → (p : List ℕ) × (walk b 1 p ≡ Some s)
       go ih (inl z) = ([], (walk_empty b s).1 (sym z))
       go ih (inr u) =
           let r = (ok.slots s l).used u in
@@ -153,10 +152,10 @@ module _ {b : List ℕ} (ok : Accepted b) where
           let x = inner_child q.0 (parent b s) s q.1 l refl i in
           (q.0 ++ x.0 ∷ [], x.1)
 
-  pub parent_walk : (s : ℕ) → s < slot_count b → UsedFrom2 b s → (p : List ℕ) × (walk b 1 p ≡ some (parent b s))
+  pub parent_walk : (s : ℕ) → s < slot_count b → UsedFrom2 b s → (p : List ℕ) × (walk b 1 p ≡ Some (parent b s))
   unfolding ancestor
   parent_walk s l u = let r = ok.reach s l u in go r.steps r.at_root
     where
-      go : (k : ℕ) → ancestor b k s ≡ 1 → (p : List ℕ) × (walk b 1 p ≡ some (parent b s))
+      go : (k : ℕ) → ancestor b k s ≡ 1 → (p : List ℕ) × (walk b 1 p ≡ Some (parent b s))
       go zero e = absurd (omega arith)
       go (suc k) e = let r = (ok.slots s l).used u in walk_down k (parent b s) e r.parent_below r.parent_used r.parent_inner

@@ -1,12 +1,11 @@
 -- The lookups over an image and a table: the value of the query is what the set says, and the list of that value reads back.
 -- So there are three outcomes: the list of the value, no value, and a value that has no list.
-use Rattle.std.specs.Prelude.{ℕ, suc, ◌%◌, ◌≤◌, ◌<◌, ◌≡◌, ◌⊎◌, ◌↔◌, true, false, cond, eqb, take}
+use Rattle.std.specs.Prelude.{ℕ, suc, ◌%◌, ◌≤◌, ◌<◌, ◌≡◌, ◌⊎◌, ◌↔◌, true, false, cond, eqb, take, Option, Some, None}
 use Rattle.std.proofs.Common.{arith, sym, ◌∙◌, inl, ne_eqb, le-leb}
 use Rattle.std.proofs.Math.Decide.{dec_lt}
 use Rattle.std.proofs.Math.Path.{refl, ap}
 use Rattle.std.proofs.Math.Logic.{inr, ⊎_elim}
 use mathlib.Core.List.{List, [], ◌∷◌, flatten}
-use Rattle.std.proofs.Math.Option.{Option, some, none}
 use Rattle.std.proofs.Math.ListN.{length}
 use Rattle.std.proofs.lemmas.Bool.{lt-leb}
 use Rattle.lxtr_spec.specs.Labels.{labels_of}
@@ -49,44 +48,44 @@ module _ {b : List ℕ} {d : PairSet} {t : List ℕ} {lists : EntryLists} (image
   -- the three outcomes
   found : (v n : ℕ) (es : List Entry) → Has d xs v → ListAt lists v n es → entries_refusal b q t ≡ 0
   unfolding value_beyond pair_refusal refuse_if
-  found v n es has at = refusal_is (some v) has ∙ rw (lt-leb (value_count t) v (omega (arith, value_count_lem table, list_below at)), pair_is table at)
+  found v n es has at = refusal_is (Some v) has ∙ rw (lt-leb (value_count t) v (omega (arith, value_count_lem table, list_below at)), pair_is table at)
 
-  missing : d xs ≡ none → entries_refusal b q t ≡ 0
+  missing : d xs ≡ None → entries_refusal b q t ≡ 0
   unfolding value_beyond pair_refusal refuse_if
-  missing e = refusal_is none e
+  missing e = refusal_is None e
 
   beyond : (v : ℕ) → Has d xs v → length lists ≤ v → entries_refusal b q t ≡ 27
   unfolding value_beyond refuse_if
-  beyond v has above = refusal_is (some v) has ∙ rw (le-leb (value_count t) v (omega (arith, value_count_lem table)))
+  beyond v has above = refusal_is (Some v) has ∙ rw (le-leb (value_count t) v (omega (arith, value_count_lem table)))
 
   entries_found : (v n : ℕ) (es : List Entry) → Has d xs v → ListAt lists v n es → entries_of b q t ≡ record { refusal = 0; part = flatten es }
   unfolding unless_refused part_for
-  entries_found v n es has at = entries_by b q t (some v) (value_is ∙ has) 0 (found v n es has at) ∙ rw (value_bytes_lem table at)
+  entries_found v n es has at = entries_by b q t (Some v) (value_is ∙ has) 0 (found v n es has at) ∙ rw (value_bytes_lem table at)
 
-  entries_missing : d xs ≡ none → entries_of b q t ≡ record { refusal = 0; part = [] }
+  entries_missing : d xs ≡ None → entries_of b q t ≡ record { refusal = 0; part = [] }
   unfolding unless_refused part_for
-  entries_missing e = entries_by b q t none (value_is ∙ e) 0 (missing e)
+  entries_missing e = entries_by b q t None (value_is ∙ e) 0 (missing e)
 
   entries_beyond : (v : ℕ) → Has d xs v → length lists ≤ v → entries_of b q t ≡ record { refusal = 27; part = [] }
   unfolding unless_refused
-  entries_beyond v has above = entries_by b q t (some v) (value_is ∙ has) 27 (beyond v has above)
+  entries_beyond v has above = entries_by b q t (Some v) (value_is ∙ has) 27 (beyond v has above)
 
   located_at : (v n : ℕ) (es : List Entry) → Has d xs v → ListAt lists v n es
       → located_of b q t ≡ record { refusal = 0; valued = true; first = cond (eqb (length es) 0) 0 n; count = length es }
   unfolding unless_refused located_by
-  located_at v n es has at = located_by_lem b q t (some v) (value_is ∙ has) 0 (found v n es has at) ∙ rw (own_count_lem table at, list_offset table at)
+  located_at v n es has at = located_by_lem b q t (Some v) (value_is ∙ has) 0 (found v n es has at) ∙ rw (own_count_lem table at, list_offset table at)
 
-  not_located : d xs ≡ none → located_of b q t ≡ record { refusal = 0; valued = false; first = 0; count = 0 }
+  not_located : d xs ≡ None → located_of b q t ≡ record { refusal = 0; valued = false; first = 0; count = 0 }
   unfolding unless_refused located_by
-  not_located e = located_by_lem b q t none (value_is ∙ e) 0 (missing e)
+  not_located e = located_by_lem b q t None (value_is ∙ e) 0 (missing e)
 
   located_beyond : (v : ℕ) → Has d xs v → length lists ≤ v → located_of b q t ≡ record { refusal = 27; valued = false; first = 0; count = 0 }
   unfolding unless_refused nowhere
-  located_beyond v has above = located_by_lem b q t (some v) (value_is ∙ has) 27 (beyond v has above)
+  located_beyond v has above = located_by_lem b q t (Some v) (value_is ∙ has) 27 (beyond v has above)
 
   -- the query is no key, or its list is empty
   abbrev NoEntries : Type 0
-  NoEntries = (d xs ≡ none) ⊎ ((v : ℕ) × (n : ℕ) × Has d xs v × ListAt lists v n [])
+  NoEntries = (d xs ≡ None) ⊎ ((v : ℕ) × (n : ℕ) × Has d xs v × ListAt lists v n [])
 
   abbrev part : EntriesAnswer → List ℕ
   part a = a.part
@@ -106,8 +105,8 @@ module _ {b : List ℕ} {d : PairSet} {t : List ℕ} {lists : EntryLists} (image
       by_list e v has (no h) = absurd (omega (arith, accepted, ap (λ (a : EntriesAnswer). a.refusal) (entries_beyond v has (omega arith))))
 
       go : (entries_of b q t).part ≡ [] → (o : Option ℕ) → d xs ≡ o → NoEntries
-      go e none f = inl f
-      go e (some v) f = by_list e v f (dec_lt v (length lists))
+      go e None f = inl f
+      go e (Some v) f = by_list e v f (dec_lt v (length lists))
 
   pub entries_answered : EntriesAnswered defined b d t lists q xs
   entries_answered = record {

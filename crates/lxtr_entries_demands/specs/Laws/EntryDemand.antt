@@ -5,7 +5,7 @@ use mathlib.Core.List.{List, [], flatten}
 use Rattle.lxtr_spec.specs.Sets.{PairSet, ImageOf}
 use Rattle.lxtr_demands.specs.Operations.{Bytes}
 use Rattle.lxtr_entries_spec.specs.EntryTables.{table_verdict_of}
-use Rattle.lxtr_entries_spec.specs.declared.TableVerdict.{TableVerdict}
+use Rattle.lxtr_entries_spec.specs.EntryTables.{TableVerdict}
 use Rattle.lxtr_entries_laws.specs.Parts.{same_part}
 use Rattle.lxtr_entries_demands.specs.EntryDemand.{EntryLists, TableOf, EveryValue, EntryDemand, defined}
 use Rattle.lxtr_entries_demands.specs.Laws.ListsAt.{list_here, one_list}

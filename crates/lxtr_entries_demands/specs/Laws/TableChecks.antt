@@ -1,10 +1,9 @@
 -- The check over an image: what it refuses, by the lists of the table and by the highest value of the set.
 -- Bytes are the form of some lists exactly when version, lengths and offsets are right.
-use Rattle.std.specs.Prelude.{ℕ, ◌≤◌, ◌≡◌, ◌≢◌, ◌⊎◌, ◌↔◌, Bool, length}
+use Rattle.std.specs.Prelude.{ℕ, ◌≤◌, ◌≡◌, ◌≢◌, ◌⊎◌, ◌↔◌, Bool, length, Option, Some}
 use Rattle.std.proofs.Common.{arith, sym, ◌∙◌, inl, inr, true≢false}
 use Rattle.std.proofs.Math.Path.{refl}
 use mathlib.Core.List.{List, flatten}
-use Rattle.std.proofs.Math.Option.{Option, some}
 use Rattle.std.proofs.Math.Bool.{true, false}
 use borrow.Author.Tests.{leb-true, leb-false, le-leb, lt-leb}
 use Rattle.lxtr_spec.specs.Refusals.{refuse_if, first_refusal, unless_refused, image_refusal}
@@ -21,7 +20,7 @@ use Rattle.lxtr_entries_demands.specs.Laws.TableForms.{value_count_lem, entry_co
 use Rattle.lxtr_entries_demands.specs.Laws.TableLists.{lists_in, table_of}
 
 -- a value that is not below V; so are those above it
-beyond_rises : (t : List ℕ) (v w : ℕ) → v ≤ w → value_beyond t (some v) ≡ true → value_beyond t (some w) ≡ true
+beyond_rises : (t : List ℕ) (v w : ℕ) → v ≤ w → value_beyond t (Some v) ≡ true → value_beyond t (Some w) ≡ true
 unfolding value_beyond
 beyond_rises t v w l e = le-leb (value_count t) w (omega (arith, leb-true (value_count t) v e))
 

@@ -1,10 +1,9 @@
 -- The definitions cut a text as the set of pairs says, whether a rest is kept back or not.
 -- By induction over the length: each step puts the piece that was found before the cutting of what comes after it.
-use Rattle.std.specs.Prelude.{ℕ, zero, suc, ◌≤◌, ◌≡◌, ◌↔◌, Bool, ◌&&◌, length}
+use Rattle.std.specs.Prelude.{ℕ, zero, suc, ◌≤◌, ◌≡◌, ◌↔◌, Bool, ◌&&◌, length, None}
 use Rattle.std.proofs.Common.{arith, sym, ◌∙◌, inl, inr, length-drop}
 use Rattle.std.proofs.Math.Path.{refl}
 use mathlib.Core.List.{List, [], ◌∷◌}
-use Rattle.std.proofs.Math.Option.{none}
 use Rattle.std.proofs.Math.Bool.{true, false, true≢false}
 use Rattle.std.proofs.lemmas.Bool.{false≢true}
 use Rattle.std.proofs.Math.ListN.{drop}
@@ -30,7 +29,7 @@ typing_keeps = grows
 pub finishing_keeps : (b : List ℕ) → KeptBack b false Never
 finishing_keeps b r small = (λ e. false≢true e, λ w. absurd w)
 
-module _ {b : List ℕ} {d : PairSet} (image : ImageOf b d) (no_empty : d [] ≡ none) (keeping : Bool) (Waits : List ℕ → Type 0) (kept : KeptBack b keeping Waits) where
+module _ {b : List ℕ} {d : PairSet} (image : ImageOf b d) (no_empty : d [] ≡ None) (keeping : Bool) (Waits : List ℕ → Type 0) (kept : KeptBack b keeping Waits) where
   -- the text is cut so
   abbrev CutAs : List ℕ → Cutting → Type 0
   CutAs t c = CutInto d Waits t c.pieces c.rest

@@ -1,11 +1,10 @@
 -- A cutting, one piece at a time: by its first piece and the cutting of what comes after it. So there is one only, and the cuttings of
 -- a text and of the rest with what follows make one cutting of the whole.
-use Rattle.std.specs.Prelude.{ℕ, ◌≡◌, ◌⊎◌}
+use Rattle.std.specs.Prelude.{ℕ, ◌≡◌, ◌⊎◌, None}
 use Rattle.std.proofs.Common.{arith, ap₂, ◌∙◌, subst₂}
 use Rattle.std.proofs.Math.Path.{refl, sym, ap}
 use Rattle.std.proofs.Math.Logic.{⊎_elim}
 use mathlib.Core.List.{List, [], ◌∷◌, ◌++◌, append_assoc, tail-eq_of_cons-eq, head-eq_of_cons-eq, nil≢cons}
-use Rattle.std.proofs.Math.Option.{none}
 use Rattle.std.proofs.Math.ListN.{length, length-append}
 use Rattle.lxtr_spec.specs.Sets.{PairSet}
 use Rattle.lxtr_spec.specs.Meaning.{Longer}
@@ -68,7 +67,7 @@ module _ (d : PairSet) (Waits : List ℕ → Type 0) where
       no_place (q ∷ before) p after e = nil≢cons e
 
   -- without the empty key there is one cutting
-  module _ (no_empty : d [] ≡ none) where
+  module _ (no_empty : d [] ≡ None) where
     -- a text cut into no piece is not cut into a piece
     stops : (t : List ℕ) (q : Piece) (qs : List Piece) (r r' : List ℕ) → CutInto d Waits t [] r → CutInto d Waits t (q ∷ qs) r' → ⊥
     unfolding joined

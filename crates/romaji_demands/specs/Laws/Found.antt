@@ -1,10 +1,9 @@
 -- What the searches find at a place of a text over an image: whether a key continues the text, and the piece there.
 -- A text of bytes is the query of those labels, so the library's demand says it in terms of the set of pairs.
-use Rattle.std.specs.Prelude.{ℕ, ◌+◌, ◌-◌, ◌*◌, ◌/◌, ◌≤◌, ◌≡◌, refl, ◌↔◌, true, take, drop, leb}
+use Rattle.std.specs.Prelude.{ℕ, ◌+◌, ◌-◌, ◌*◌, ◌/◌, ◌≤◌, ◌≡◌, refl, ◌↔◌, true, take, drop, leb, Option, Some, None}
 use Rattle.std.proofs.Common.{arith, ◌∙◌, subst, ⊎_elim, take-append-drop, take-take, take_at, le-leb}
 use Rattle.std.proofs.Math.Path.{sym, ap, ap₂}
 use mathlib.Core.List.{List, [], ◌∷◌, ◌++◌}
-use Rattle.std.proofs.Math.Option.{Option, some, none}
 use Rattle.std.proofs.Math.ListN.{length, length-take, length-append}
 use Rattle.std.proofs.Math.Seq.{length-take-le, take-append-add, split_at}
 use Rattle.lxtr_spec.specs.Numbers.{be_words}
@@ -87,17 +86,17 @@ module _ {b : List ℕ} {d : PairSet} (image : ImageOf b d) where
     piece_by_lem = ap₂ (piece_by r) matched_length matched_value_lem
 
     -- with no key there, no key matches
-    no_key : d [] ≡ none → d (take n r) ≡ none → NoKeyAt d r
+    no_key : d [] ≡ None → d (take n r) ≡ None → NoKeyAt d r
     no_key no_empty nothing [] later w e h = none_not_some (sym no_empty ∙ h)
     no_key no_empty nothing (x ∷ l) later w e h = ⊎_elim
         (λ z. omega (arith, most (x ∷ l) later w e h))
         (λ (p, q, v, f, m, has). none_not_some (sym nothing ∙ ap d (sym front_take ∙ ap (take n) f ∙ take_at p q n m) ∙ has))
         is.is
 
-    piece_in : d [] ≡ none → 1 ≤ length r → (o : Option ℕ) → d (take n r) ≡ o → PieceIn d r (piece_by r n o)
+    piece_in : d [] ≡ None → 1 ≤ length r → (o : Option ℕ) → d (take n r) ≡ o → PieceIn d r (piece_by r n o)
     unfolding piece_by piece_text
-    piece_in no_empty some-text none e = record { piece = no_key no_empty e; parts = split_at r 0 0 some-text }
-    piece_in no_empty some-text (some v) e =
+    piece_in no_empty some-text None e = record { piece = no_key no_empty e; parts = split_at r 0 0 some-text }
+    piece_in no_empty some-text (Some v) e =
         let size : length (take n r) ≡ n = length-take-le n r (omega (arith, within, length-take max_labels r)) in
         record {
           piece = record {
@@ -108,7 +107,7 @@ module _ {b : List ℕ} {d : PairSet} (image : ImageOf b d) where
           parts = rw size (sym (take-append-drop n r));
         }
 
-  pub piece_found : d [] ≡ none → (r : List ℕ) → Bytes r → 1 ≤ length r → PieceIn d r (piece_at b r)
+  pub piece_found : d [] ≡ None → (r : List ℕ) → Bytes r → 1 ≤ length r → PieceIn d r (piece_at b r)
   piece_found no_empty r small some-text =
       let (n, is) = (answered (take max_labels r) (bytes_take max_labels r small)).searched.some_longest in
       rw (piece_by_lem r small n is) (piece_in r small n is no_empty some-text (d (take n r)) refl)

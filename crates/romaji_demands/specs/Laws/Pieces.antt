@@ -1,11 +1,10 @@
 -- The piece at a place: it is not empty, there is one only, and it stays the same whatever follows a text that no key continues.
 -- The keys that match there are front parts of one text, so of two of them one begins with the other.
-use Rattle.std.specs.Prelude.{ℕ, ◌≤◌, ◌≡◌, length}
+use Rattle.std.specs.Prelude.{ℕ, ◌≤◌, ◌≡◌, length, None}
 use native.Mathlib.Omega.{arith}
 use Rattle.std.proofs.Math.Path.{sym, ap}
 use Rattle.std.proofs.Common.{ap₂, ◌∙◌, ⊎_elim}
 use mathlib.Core.List.{List, [], ◌∷◌, ◌++◌, append_assoc, append-nil, tail-eq_of_cons-eq, head-eq_of_cons-eq}
-use Rattle.std.proofs.Math.Option.{none}
 use Rattle.lxtr_spec.specs.Sets.{PairSet, Has}
 use Rattle.lxtr_spec.specs.Meaning.{Longer}
 use Rattle.lxtr_laws.specs.StepFacts.{none_not_some, some_same}
@@ -36,7 +35,7 @@ module _ (d : PairSet) where
     piece_stays (byte x) is = λ l later w e has. let (m, f) = matches_before l later w e has in is l m w f has
 
   -- without the empty key a piece has a byte
-  module _ (no_empty : d [] ≡ none) where
+  module _ (no_empty : d [] ≡ None) where
     pub piece_some : (t : List ℕ) (p : Piece) → PieceAt d t p → 1 ≤ length (piece_text p)
     unfolding piece_text
     piece_some t (key [] v) is = absurd (none_not_some (sym no_empty ∙ is.is_key))

@@ -1,12 +1,11 @@
 -- What is refused of image and table, by the set of pairs: 1 to 12 where the bytes are no image, 24 by the highest value, 25 by the
 -- empty key. Texts lie one after the other, so if the text of the highest value is whole, all are.
-use Rattle.std.specs.Prelude.{ℕ, suc, ◌<◌, ◌≡◌, ◌≢◌, ◌⊎◌, Bool, true, false, length}
+use Rattle.std.specs.Prelude.{ℕ, suc, ◌<◌, ◌≡◌, ◌≢◌, ◌⊎◌, Bool, true, false, length, Option, Some, None}
 use Rattle.std.proofs.Common.{arith, sym, ◌∙◌}
 use Rattle.std.proofs.Math.Decide.{ℕ_discrete}
 use Rattle.std.proofs.Math.Path.{refl}
 use Rattle.std.proofs.Math.Logic.{inl, inr}
 use mathlib.Core.List.{List, []}
-use Rattle.std.proofs.Math.Option.{Option, some, none}
 use Rattle.std.proofs.lemmas.Bool.{false≢true}
 use borrow.Author.Tests.{ltb-true, ltb-false, lt-ltb, le-ltb}
 use Rattle.lxtr_spec.specs.Labels.{labels_of, labels_from}
@@ -27,8 +26,8 @@ use Rattle.romaji_demands.specs.TypingDemand.{TableWhole, Ready, RefusedBy, imag
 module _ (kana : List ℕ) (d : PairSet) where
   whole_passes : (h : Option ℕ) → HighestIn d h → TableWhole kana d → table_short kana h ≡ false
   unfolding table_short text_cut text_at
-  whole_passes none is whole = refl
-  whole_passes (some w) is whole = let (k, has) = is.is w refl in le-ltb (length kana) (text_end kana (text_at kana w)) (whole k w has)
+  whole_passes None is whole = refl
+  whole_passes (Some w) is whole = let (k, has) = is.is w refl in le-ltb (length kana) (text_end kana (text_at kana w)) (whole k w has)
 
   short_refused : (h : Option ℕ) → HighestIn d h → (k : List ℕ) (v : ℕ) → Has d k v → length kana < text_at kana (suc v) → table_short kana h ≡ true
   unfolding table_short text_cut text_at
@@ -45,8 +44,8 @@ module _ (kana : List ℕ) (d : PairSet) where
   -- the highest value's key is one whose text is cut
   refused_short : (h : Option ℕ) → HighestIn d h → table_short kana h ≡ true → (k : List ℕ) × (v : ℕ) × Has d k v × (length kana < text_at kana (suc v))
   unfolding table_short text_cut text_at
-  refused_short none is short = absurd (false≢true short)
-  refused_short (some w) is short = let (k, has) = is.is w refl in (k, w, has, ltb-true (length kana) (text_end kana (text_at kana w)) short)
+  refused_short None is short = absurd (false≢true short)
+  refused_short (Some w) is short = let (k, has) = is.is w refl in (k, w, has, ltb-true (length kana) (text_end kana (text_at kana w)) short)
 
 module _ (b kana : List ℕ) where
   -- over an image
@@ -89,8 +88,8 @@ module _ (b kana : List ℕ) where
   decided = by_image (ℕ_discrete (image_refusal b) 0)
     where
       by_empty : (d : PairSet) → ImageOf b d → TableWhole kana d → (o : Option ℕ) → d [] ≡ o → Decision
-      by_empty d image whole none e = inr (d, record { image = image; whole = whole; no_empty = e })
-      by_empty d image whole (some v) e = inl (25, empty_key d v image whole e)
+      by_empty d image whole None e = inr (d, record { image = image; whole = whole; no_empty = e })
+      by_empty d image whole (Some v) e = inl (25, empty_key d v image whole e)
 
       by_table : (d : PairSet) → ImageOf b d → (h : Option ℕ) → HighestIn d h → (t : Bool) → table_short kana h ≡ t → Decision
       by_table d image h is true e = let (k, v, has, short) = refused_short kana d h is e in inl (24, is_table_short d k v image has short)

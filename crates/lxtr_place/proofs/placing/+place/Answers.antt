@@ -16,7 +16,7 @@ returns-in_default-clause-work_after t c = search none_fits
 -- src/placing.rt:100:5
 pub loop-j-init : goal.loop-j-init
 loop-j-init t c =
-    let w = within c.requires.called _ _ _ c.child_codes-count.ensures.upper_bound c.child_codes-count.auto.room c.child_codes-count.ensures.room_after _ _ c.settle_group-fit.ensures.work_after c.in-Is.is c.if-left-eq0.false in
+    let w = within c.requires.called _ _ _ c.child_codes-count.ensures.upper_bound c.child_codes-count.auto.room c.child_codes-count.ensures.room_after _ _ c.settle_group-fit.ensures.work_after c.in-Some.is c.if-left-eq0.false in
     record { within = w; going = loop_first w refl; free_map = c.settle_group-fit.ensures.free_map_2 }
 
 -- src/placing.rt:104:17

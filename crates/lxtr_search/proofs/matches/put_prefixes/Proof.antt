@@ -7,7 +7,7 @@ use native.Mathlib.Nat.{sub-zero}
 use lib.ListN.{replicate}
 use Rattle.lxtr_spec.specs.Labels.{max_labels, length_count}
 use Rattle.lxtr_spec.specs.Searches.{prefixes_answer}
-use Rattle.lxtr_spec.specs.declared.Prefixes.{Prefixes}
+use Rattle.lxtr_spec.specs.Searches.{Prefixes}
 use Rattle.lxtr_laws.specs.SearchReturns.{search_passed, prefixes_refused, prefixes_passed}
 use Rattle.lxtr_search.specs.Kept.{filled}
 use Rattle.lxtr_search.proofs.matches.put_prefixes.Statement.{statement}
