@@ -1,11 +1,11 @@
 -- The drawing of an image, in the language of Graphviz: the lines for slots, for the steps from parents to children and for the entries
 -- of the lists; and which of them are drawn.
-use Rattle.std.specs.Prelude.{ℕ, ◌+◌, ◌-◌, List, [], ◌∷◌, ◌++◌, Bool, true, false, ◌&&◌, ◌||◌, not, cond, leb, ltb, eqb}
+use Rattle.std.specs.Prelude.{ℕ, ◌+◌, ◌-◌, List, [], ◌∷◌, ◌++◌, Bool, true, false, ◌&&◌, ◌||◌, not, cond, leb, ltb, eqb, Option, Some, None}
 use Rattle.lxtr_spec.specs.Ranges.{first_below, concat_from}
 use Rattle.lxtr_spec.specs.Image.{slot_count, child_count, is_leaf, has_leaf, value_number, base, parent, code_to, offset, child, label_count, label_at}
 use Rattle.lxtr_spec.specs.Refusals.{both_zero}
 use Rattle.lxtr_spec.specs.declared.Fault.{Fault}
-use Rattle.lxtr_spec.specs.declared.Fault.TheVariants.{Nowhere, Label, Slot, Offset, Entry, Unlisted, Childless, RootBase, Unreachable}
+use Rattle.lxtr_spec.specs.declared.Fault.TheVariants.{Label, Slot, Offset, Entry, Unlisted, Childless, RootBase, Unreachable}
 use Rattle.lxtr_command_spec.specs.Forms.{filled}
 use Rattle.lxtr_command_spec.specs.Commands.{ascii}
 
@@ -41,34 +41,34 @@ entry_line b p j wrong =
 -- ---- what is drawn; the place at fault is wrong
 
 -- slot s is the one at fault
-unfoldable pub is_wrong_slot : Fault → ℕ → Bool
-is_wrong_slot Nowhere s = false
-is_wrong_slot (Label i) s = false
-is_wrong_slot (Slot t) s = eqb s t
-is_wrong_slot (Offset t) s = eqb s t
-is_wrong_slot (Entry p j) s = false
-is_wrong_slot (Unlisted t) s = eqb s t
-is_wrong_slot (Childless t) s = eqb s t
-is_wrong_slot RootBase s = eqb s 1
-is_wrong_slot (Unreachable t) s = eqb s t
+unfoldable pub is_wrong_slot : Option Fault → ℕ → Bool
+is_wrong_slot None s = false
+is_wrong_slot (Some (Label i)) s = false
+is_wrong_slot (Some (Slot t)) s = eqb s t
+is_wrong_slot (Some (Offset t)) s = eqb s t
+is_wrong_slot (Some (Entry p j)) s = false
+is_wrong_slot (Some (Unlisted t)) s = eqb s t
+is_wrong_slot (Some (Childless t)) s = eqb s t
+is_wrong_slot (Some RootBase) s = eqb s 1
+is_wrong_slot (Some (Unreachable t)) s = eqb s t
 
 -- entry j is the one at fault
-unfoldable pub is_wrong_entry : Fault → ℕ → Bool
-is_wrong_entry Nowhere j = false
-is_wrong_entry (Label i) j = false
-is_wrong_entry (Slot t) j = false
-is_wrong_entry (Offset t) j = false
-is_wrong_entry (Entry p i) j = eqb j i
-is_wrong_entry (Unlisted t) j = false
-is_wrong_entry (Childless t) j = false
-is_wrong_entry RootBase j = false
-is_wrong_entry (Unreachable t) j = false
+unfoldable pub is_wrong_entry : Option Fault → ℕ → Bool
+is_wrong_entry None j = false
+is_wrong_entry (Some (Label i)) j = false
+is_wrong_entry (Some (Slot t)) j = false
+is_wrong_entry (Some (Offset t)) j = false
+is_wrong_entry (Some (Entry p i)) j = eqb j i
+is_wrong_entry (Some (Unlisted t)) j = false
+is_wrong_entry (Some (Childless t)) j = false
+is_wrong_entry (Some RootBase) j = false
+is_wrong_entry (Some (Unreachable t)) j = false
 
 -- drawn are slot 1, each slot that holds something, and the slot at fault
-unfoldable pub is_drawn : List ℕ → Fault → ℕ → Bool
+unfoldable pub is_drawn : List ℕ → Option Fault → ℕ → Bool
 is_drawn b fault s = eqb s 1 || not (both_zero b s) || is_wrong_slot fault s
 
-unfoldable pub slot_text : List ℕ → Fault → ℕ → List ℕ
+unfoldable pub slot_text : List ℕ → Option Fault → ℕ → List ℕ
 slot_text b fault s = elim (is_drawn b fault s) [ true ↦ slot_line b s (is_wrong_slot fault s) | false ↦ [] ]
 
 -- the step to a slot is drawn if its parent is a slot other than 0
@@ -86,12 +86,12 @@ lies_in b j p = leb (offset b p) j && ltb j (offset b (p + 1))
 unfoldable pub list_of : List ℕ → ℕ → ℕ
 list_of b j = first_below (slot_count b) (lies_in b j)
 
-unfoldable pub entry_text : List ℕ → Fault → ℕ → List ℕ
+unfoldable pub entry_text : List ℕ → Option Fault → ℕ → List ℕ
 entry_text b fault j = entry_line b (list_of b j) j (is_wrong_entry fault j)
 
 -- the whole graph: each slot with the step to it, and then each entry
-unfoldable pub slot_and_step : List ℕ → Fault → ℕ → List ℕ
+unfoldable pub slot_and_step : List ℕ → Option Fault → ℕ → List ℕ
 slot_and_step b fault s = slot_text b fault s ++ step_text b s
 
-unfoldable pub drawing : List ℕ → Fault → List ℕ
+unfoldable pub drawing : List ℕ → Option Fault → List ℕ
 drawing b fault = concat_from (slot_count b) 0 (slot_and_step b fault) ++ concat_from (child_count b) 0 (entry_text b fault)

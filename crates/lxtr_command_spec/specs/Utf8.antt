@@ -1,8 +1,10 @@
 -- RFC 3629: text in UTF-8 and the labels that it stands for.
-use Rattle.std.specs.Prelude.{ℕ, zero, suc, ◌+◌, ◌*◌, ◌/◌, ◌%◌, List, [], ◌∷◌, ◌++◌, Bool, true, false, ◌&&◌, cond, length, drop, ltb, eqb, Option, Some, None}
+use Rattle.std.specs.Prelude.{ℕ, zero, suc, ◌+◌, ◌*◌, ◌/◌, ◌%◌, List, [], ◌∷◌, ◌++◌, Bool, true, false, ◌&&◌, cond, length, drop, ltb, eqb, Option, Some, None, Result}
 use Rattle.lxtr_spec.specs.Numbers.{byte_at, be_words}
 use Rattle.lxtr_spec.specs.Labels.{is_scalar}
-use Rattle.lxtr_command_spec.specs.Utf8.{Decoded}
+use Rattle.lxtr_spec.specs.Answers.{number_by, answer_or}
+use Rattle.lxtr_command_spec.specs.declared.TextProblem.{TextProblem}
+use Rattle.lxtr_command_spec.specs.declared.TextProblem.TheVariants.{NotUtf8, NoRoom}
 
 -- Section 3, the table: the bytes of a character number. A byte 10xxxxxx holds the six lowest bits of n.
 abbrev pub tail_byte : ℕ → ℕ
@@ -70,6 +72,10 @@ unfoldable pub labels_of_text : List ℕ → Option (List ℕ)
 labels_of_text t = labels_within (length t) t
 
 -- how many labels there are; problem 1: the text is not UTF-8
+pub record Decoded : Type 0 where
+  pub problem : ℕ
+  pub count : ℕ
+
 unfoldable pub counted : Option (List ℕ) → Decoded
 counted None = record { problem = 1; count = 0 }
 counted (Some xs) = record { problem = 0; count = length xs }
@@ -93,3 +99,11 @@ decoding room (Some xs) =
 
 unfoldable pub decoding_of : List ℕ → List ℕ → DecodingAnswer
 decoding_of text room = decoding room (labels_of_text text)
+
+-- the number of a problem, and the same of the code's answer: how many labels there are, or a problem
+abbrev pub text_number : TextProblem → ℕ
+text_number NotUtf8 = 1
+text_number NoRoom = 4
+
+abbrev pub decoded_in : Result ℕ TextProblem → Decoded
+decoded_in r = record { problem = number_by text_number r; count = answer_or 0 r }

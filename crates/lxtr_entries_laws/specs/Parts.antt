@@ -6,8 +6,7 @@ use Rattle.lxtr_spec.specs.Refusals.{refuse_if, unless_refused}
 use Rattle.lxtr_spec.specs.Searches.{search_refusal}
 use Rattle.lxtr_laws.specs.RefusalChains.{none_refused, none_first}
 use Rattle.lxtr_entries_spec.specs.EntryTables.{entry_size, table_offset, entries_at, entry_bytes, own_count, value_bytes, form_wrong, pair_wrong, value_beyond}
-use Rattle.lxtr_entries_spec.specs.EntryLookups.{query_value, pair_refusal, entries_refusal, part_for, EntriesAnswer, entries_of, located_by, nowhere, located_of}
-use Rattle.lxtr_entries_spec.specs.EntryLookups.{Located}
+use Rattle.lxtr_entries_spec.specs.EntryLookups.{query_value, pair_refusal, entries_refusal, part_for, EntriesAnswer, entries_of, Located, located_by, nowhere, located_of}
 use Rattle.lxtr_entries_laws.specs.TableFacts.{pair_right, entries_within}
 
 -- no entries have no bytes, wherever they begin

@@ -1,9 +1,10 @@
 -- Document 02, request 7: the lookup of a query's entries, for all bytes as image, query and table.
-use Rattle.std.specs.Prelude.{ℕ, List, [], true, false, cond, eqb, Option, Some, None}
+use Rattle.std.specs.Prelude.{ℕ, List, [], Bool, true, false, cond, eqb, Option, Some, None, Result, Ok, Err}
 use Rattle.lxtr_spec.specs.Refusals.{refuse_if, first_refusal, unless_refused}
 use Rattle.lxtr_spec.specs.Searches.{search_refusal, case_value, lookup_of}
-use Rattle.lxtr_entries_spec.specs.EntryTables.{table_offset, own_count, value_bytes, form_wrong, pair_wrong, value_beyond}
-use Rattle.lxtr_entries_spec.specs.EntryLookups.{Located}
+use Rattle.lxtr_entries_spec.specs.EntryTables.{entry_number, table_offset, own_count, value_bytes, form_wrong, pair_wrong, value_beyond}
+use Rattle.lxtr_entries_spec.specs.declared.Entries.{Entries}
+use Rattle.lxtr_entries_spec.specs.declared.EntryRefusal.{EntryRefusal}
 
 -- the value of the query, or none
 unfoldable pub query_value : List ℕ → List ℕ → Option ℕ
@@ -37,6 +38,12 @@ entries_of b q t = let part = part_for t (query_value b q) in record { refusal =
 
 -- Not in document 02: where that part lies, for a caller that cannot be handed a part of the table. The place of its first entry
 -- among the entries, 0 if it has none, and how many it has; and whether the query has a value, which an empty part does not tell.
+pub record Located : Type 0 where
+  pub refusal : ℕ
+  pub valued : Bool
+  pub first : ℕ
+  pub count : ℕ
+
 unfoldable pub located_by : List ℕ → Option ℕ → Located
 located_by t None = record { refusal = 0; valued = false; first = 0; count = 0 }
 located_by t (Some v) = record { refusal = 0; valued = true; first = cond (eqb (own_count t v) 0) 0 (table_offset t v); count = own_count t v }
@@ -46,3 +53,9 @@ nowhere k = record { refusal = k; valued = false; first = 0; count = 0 }
 
 unfoldable pub located_of : List ℕ → List ℕ → List ℕ → Located
 located_of b q t = let there = located_by t (query_value b q) in unless_refused (entries_refusal b q t) there (nowhere (entries_refusal b q t))
+
+-- the same of the code's answer: a refusal, or the entries if the query has a value
+abbrev pub located_in : Result (Option Entries) EntryRefusal → Located
+located_in (Err r) = nowhere (entry_number r)
+located_in (Ok None) = record { refusal = 0; valued = false; first = 0; count = 0 }
+located_in (Ok (Some e)) = record { refusal = 0; valued = true; first = e.first; count = e.count }

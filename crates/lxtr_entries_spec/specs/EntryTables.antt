@@ -2,9 +2,11 @@
 use Rattle.std.specs.Prelude.{ℕ, ◌+◌, ◌*◌, ◌-◌, ◌/◌, ◌%◌, List, Bool, false, ◌||◌, not, length, take, drop, leb, ltb, eqb, Option, Some, None}
 use Rattle.lxtr_spec.specs.Ranges.{any_below}
 use Rattle.lxtr_spec.specs.Numbers.{byte_at, be32}
+use Rattle.lxtr_spec.specs.Answers.{number}
 use Rattle.lxtr_spec.specs.Refusals.{refuse_if, first_refusal, unless_refused}
 use Rattle.lxtr_spec.specs.HighestValues.{highest_of}
-use Rattle.lxtr_entries_spec.specs.EntryTables.{TableVerdict}
+use Rattle.lxtr_entries_spec.specs.declared.EntryRefusal.{EntryRefusal}
+use Rattle.lxtr_entries_spec.specs.declared.EntryRefusal.TheVariants.{Image, TableMalformed, ValueBeyond}
 
 -- A table in our form (version byte 1, V in four bytes, V+1 offsets of four, then entries of eight bytes, big-endian)
 unfoldable pub table_version : List ℕ → ℕ
@@ -41,6 +43,12 @@ own_count t v = table_offset t (v + 1) - table_offset t v
 unfoldable pub value_bytes : List ℕ → ℕ → List ℕ
 value_bytes t v = entry_bytes t (table_offset t v) (own_count t v)
 
+-- the number of a refusal
+abbrev pub entry_number : EntryRefusal → ℕ
+entry_number (Image refusal) = number refusal
+entry_number TableMalformed = 26
+entry_number ValueBeyond = 27
+
 -- version and length (26: too short for the offsets, or a rest not of whole entries). (A table that is too short for version and V
 -- is too short for the offsets, whatever is read as V.)
 unfoldable pub form_wrong : List ℕ → Bool
@@ -71,5 +79,9 @@ table_refusal b t =
     first_refusal (highest_of b).refusal form
 
 -- The answer is the number of entries. A refusal answers 0.
+pub record TableVerdict : Type 0 where
+  pub refusal : ℕ
+  pub entries : ℕ
+
 unfoldable pub table_verdict_of : List ℕ → List ℕ → TableVerdict
 table_verdict_of b t = record { refusal = table_refusal b t; entries = unless_refused (table_refusal b t) (entry_count t) 0 }

@@ -3,8 +3,7 @@ use Rattle.std.specs.Prelude.{ℕ, List, [], ◌∷◌, false}
 use Rattle.lxtr_spec.specs.Refusals.{unless_refused}
 use Rattle.lxtr_spec.specs.HostNumbers.{host_number, at_front}
 use Rattle.lxtr_entries_spec.specs.EntryTables.{table_verdict_of}
-use Rattle.lxtr_entries_spec.specs.EntryLookups.{located_of}
-use Rattle.lxtr_entries_spec.specs.EntryLookups.{Located}
+use Rattle.lxtr_entries_spec.specs.EntryLookups.{Located, located_of}
 
 -- The check: how many entries the table has.
 unfoldable pub table_number : List ℕ → List ℕ → ℕ

@@ -1,13 +1,15 @@
 -- Document 02, request 1: typing and finishing, for all bytes as image, table and text, and for every state and room.
 use Rattle.std.specs.Prelude.{ℕ, ◌-◌, ◌*◌, List, [], ◌++◌, Bool, true, false, length, take, drop, replicate, ltb, Option, Some, None}
 use Rattle.lxtr_spec.specs.Numbers.{be_words}
+use Rattle.lxtr_spec.specs.Answers.{number}
 use Rattle.lxtr_spec.specs.Refusals.{refuse_if, first_refusal, unless_refused}
 use Rattle.lxtr_spec.specs.Searches.{case_value, lookup_of}
 use Rattle.lxtr_spec.specs.HighestValues.{highest_of}
 use Rattle.romaji_spec.specs.KanaTables.{table_short}
 use Rattle.romaji_spec.specs.Pieces.{max_kept, Cutting, cut, outgoing}
 use Rattle.romaji_spec.specs.declared.State.{State}
-use Rattle.romaji_spec.specs.Typing.{Typed}
+use Rattle.romaji_spec.specs.declared.TypingRefusal.{TypingRefusal}
+use Rattle.romaji_spec.specs.declared.TypingRefusal.TheVariants.{Image, TableTooShort, EmptyKey, NoRoom}
 
 -- The bytes that a state keeps. (A state that counts more bytes than it has comes from no call, and document 02 leaves its answer free;
 -- here all of its bytes are kept.)
@@ -26,6 +28,13 @@ is_value (Some v) = true
 unfoldable pub has_empty_key : List ℕ → Bool
 has_empty_key b = is_value (case_value (lookup_of b []).case)
 
+-- the number of a refusal
+abbrev pub typing_number : TypingRefusal → ℕ
+typing_number (Image refusal) = number refusal
+typing_number TableTooShort = 24
+typing_number EmptyKey = 25
+typing_number NoRoom = 29
+
 -- 24, 25, 29, tested after 1 to 12 in that order. 29: no room for the labels that go out.
 unfoldable pub table_refusal : List ℕ → List ℕ → ℕ
 table_refusal b kana =
@@ -34,6 +43,12 @@ table_refusal b kana =
 
 unfoldable pub room_refusal : List ℕ → List ℕ → ℕ
 room_refusal room out = refuse_if (ltb (length room) (4 * length out)) 29 0
+
+-- how many labels went out, and the next state; or a refusal
+pub record Typed : Type 0 where
+  pub refusal : ℕ
+  pub count : ℕ
+  pub state : State
 
 -- the answer, with the room after the call
 pub record TypingAnswer : Type 0 where

@@ -1,31 +1,55 @@
-// Romaji typing: the types of state and answer, the limit of what is kept, and the refusal numbers. Their meaning is defined in
-// specs/, which holds request 1 of document 02 as definitions.
+// Romaji typing: the state, the limit of what is kept, and the refusals. Their meaning is defined in specs/, which holds request 1 of
+// document 02 as definitions.
 #![tactic(auto)]
 
+ghost use Rattle.std.specs.Prelude.{◌≡◌};
+ghost use Rattle.romaji_spec.specs.Typing.{typing_number};
+ghost use Rattle.romaji_spec.specs.declared.TypingRefusal.TheVariants.{Image};
+
 use lxtr_spec::MAX_LABELS;
+use lxtr_spec::refusals::Refusal;
 
 // What is kept back is a proper front part of a key, so it has at least one label less than a key may have.
 pub const MAX_KEPT: usize = MAX_LABELS - 1;
 
 // What is kept from one call to the next: `count` bytes at the front of `kept`. The others are zero.
-#[derive(Clone, Copy)]
+#[derive(Clone, Copy, Debug, PartialEq, Eq)]
 pub struct State {
     pub count: u8,
     pub kept: [u8; MAX_KEPT],
 }
 
-// Typing and finishing: how many labels went out, and the next state. `refusal` is 0, a number of `lxtr_spec::refusals` from 1 to
-// 12, or one of those below. If it is not 0, no label went out, and the state is the one before the call.
-#[derive(Drop)]
-pub struct Typed {
-    pub refusal: u8,
-    pub count: usize,
-    pub state: State,
+// Why nothing was typed. If one is given, no label went out, and the state is the one before the call.
+#[derive(Clone, Copy, Debug, PartialEq, Eq)]
+pub enum TypingRefusal {
+    // 1 to 12, of the image
+    Image(Refusal),
+    // 24: the table ends before the text of some value in the image is whole
+    TableTooShort,
+    // 25: the image has the empty key
+    EmptyKey,
+    // 29: no room for what goes out
+    NoRoom,
 }
 
-// The refusals of document 02's request 1, in this order, after those of an image.
-pub const TABLE_TOO_SHORT: u8 = 24; // the table ends before the text of some value in the image is whole
+impl TypingRefusal {
+    // Its number in documents 01 and 02.
+    pub fn number(self) -> u8
+        ensures { result ≡ typing_number self }
+    {
+        match self {
+            TypingRefusal::Image(refusal) => refusal.number(),
+            TypingRefusal::TableTooShort => 24,
+            TypingRefusal::EmptyKey => 25,
+            TypingRefusal::NoRoom => 29,
+        }
+    }
+}
 
-pub const EMPTY_KEY: u8 = 25; // the image has the empty key
+impl From<Refusal> for TypingRefusal {
+    ghost from_gives = { λ r e. e ≡ Image r };
 
-pub const NO_ROOM: u8 = 29; // no room for what goes out
+    fn from(r: Refusal) -> TypingRefusal {
+        TypingRefusal::Image(r)
+    }
+}
