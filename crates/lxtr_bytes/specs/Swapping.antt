@@ -3,6 +3,9 @@
 use Rattle.std.specs.Prelude.{ℕ, ◌+◌, ◌*◌, ◌/◌, ◌%◌, ◌^◌, ◌<◌, ◌≡◌, eqb}
 use Rattle.std.proofs.Common.{sym, ap, ◌∙◌, mod-eq_of_lt, mod-lt, zero-add, arith, lit<, eqb-true, eq-eqb}
 use Rattle.std.proofs.Math.Nat.{add-mul-mod_self_right, add-mul-div_right, div-eq_of_lt}
+use Rattle.std.specs.Int.{swap_bytes, w32}
+use Rattle.std.specs.Prelude.{◌+◌, ◌≤◌, List, length, get_or}
+use Rattle.lxtr_spec.specs.Numbers.{le32, be32}
 use Rattle.lxtr_laws.specs.Tests.{same_test}
 use Rattle.lxtr_laws.specs.ReadBack.{digits}
 
@@ -52,3 +55,20 @@ swapped_equal a b c d x w r ha hb hc hd hx e s =
         same_equality w r (a * 2 ^ 24 + b * 2 ^ 16 + c * 2 ^ 8 + d) x
         (λ t. turned a b c d k l m n ha hb hc hd hk hl hm hn (sym e ∙ t ∙ other) ∙ sym f)
         (λ t. e ∙ sym (turned k l m n a b c d hk hl hm hn ha hb hc hd (sym (t ∙ f))) ∙ sym other)
+
+-- the library's swap, as a sum
+swapping : (x r : ℕ) → x < 2 ^ 32 → r ≡ swap_bytes w32 x → r ≡ x % 2 ^ 8 * 2 ^ 24 + x / 2 ^ 8 % 2 ^ 8 * 2 ^ 16 + x / 2 ^ 16 % 2 ^ 8 * 2 ^ 8 + x / 2 ^ 24
+swapping x r h s = omega (arith, s)
+
+-- a list of bytes b
+module _ (b : List ℕ) (i : ℕ) (bytes : (k : ℕ) → get_or b k 0 < 2 ^ 8) where
+  pub swapped_word : (w r : ℕ) → w ≡ le32 b i → r ≡ swap_bytes w32 w → r ≡ be32 b i
+  unfolding le32 be32
+  swapped_word w r e s =
+      let h : w < 2 ^ 32 = omega (arith, e, bytes i, bytes (i + 1), bytes (i + 2), bytes (i + 3)) in
+      swapped_bytes (get_or b i 0) (get_or b (i + 1) 0) (get_or b (i + 2) 0) (get_or b (i + 3) 0) w r (bytes i) (bytes (i + 1)) (bytes (i + 2)) (bytes (i + 3)) e (swapping w r h s)
+
+  pub equal_words : (w r x : ℕ) → x < 2 ^ 32 → w ≡ le32 b i → r ≡ swap_bytes w32 x → eqb w r ≡ eqb (be32 b i) x
+  unfolding le32 be32
+  equal_words w r x h e s =
+      swapped_equal (get_or b i 0) (get_or b (i + 1) 0) (get_or b (i + 2) 0) (get_or b (i + 3) 0) x w r (bytes i) (bytes (i + 1)) (bytes (i + 2)) (bytes (i + 3)) h e (swapping x r h s)

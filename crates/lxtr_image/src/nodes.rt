@@ -1,79 +1,97 @@
 // The two words of a slot: base, with IS_LEAF as its top bit, and check, with HAS_LEAF.
 ghost use Rattle.std.specs.Prelude.{◌≡◌, ◌<◌};
-ghost use Rattle.lxtr_spec.specs.Image.{slot_count, base_word, check_word, is_leaf, has_leaf, parent, has_parent, base, value_number};
-ghost use Rattle.lxtr_laws.specs.Passed.{Whole};
+ghost use Rattle.lxtr_spec.specs.Image.{slot_count, base_word, check_word, is_leaf, has_leaf, parent, has_parent, base, value_number, slot_from, code_to};
 
-use crate::sections::{HEADER_LENGTH, slot_count};
+use crate::Image;
+use crate::joining::{code_under, slot_under};
+use crate::sections::HEADER_LENGTH;
 use lxtr_bytes::numbers::le32_at;
 
 // IS_LEAF in the base word, HAS_LEAF in the check word.
 pub const TOP_BIT: u32 = 0x8000_0000;
 
-pub fn base_word(image: &[u8], s: u32) -> u32
-    requires whole { Whole image.now }
-    requires s_bound { s < slot_count image.now }
-    ensures { result ≡ base_word image.now s }
-{
-    le32_at(image, HEADER_LENGTH + 8 * s as usize)
-}
-
-pub fn check_word(image: &[u8], s: u32) -> u32
-    requires whole { Whole image.now }
-    requires s_bound { s < slot_count image.now }
-    ensures { result ≡ check_word image.now s }
-{
-    le32_at(image, HEADER_LENGTH + 8 * s as usize + 4)
-}
-
-pub fn is_leaf(image: &[u8], s: u32) -> bool
-    requires whole { Whole image.now }
-    requires s_bound { s < slot_count image.now }
-    ensures { result ≡ is_leaf image.now s }
-{
-    TOP_BIT <= base_word(image, s)
-}
-
-pub fn has_leaf(image: &[u8], s: u32) -> bool
-    requires whole { Whole image.now }
-    requires s_bound { s < slot_count image.now }
-    ensures { result ≡ has_leaf image.now s }
-{
-    TOP_BIT <= check_word(image, s)
-}
-
-pub fn parent_of(image: &[u8], s: u32) -> u32
-    requires whole { Whole image.now }
-    requires s_bound { s < slot_count image.now }
-    ensures { result ≡ parent image.now s }
-{
-    check_word(image, s) % TOP_BIT
-}
-
-// Whether slot t exists and has n as parent.
-pub fn has_parent(image: &[u8], t: u32, n: u32) -> bool
-    requires { Whole image.now }
-    ensures { result ≡ has_parent image.now t n }
-{
-    if slot_count(image) <= t {
-        return false;
+impl<'a> Image<'a> {
+    #[tactic(auto, unfolding(lxtr_spec::specs::Image::base_word))]
+    pub fn base_word(&self, s: u32) -> u32
+        requires { s < slot_count self.now }
+        ensures { result ≡ base_word self.now s }
+    {
+        le32_at(self.bytes, HEADER_LENGTH + 8 * s as usize)
     }
-    parent_of(image, t) == n
-}
 
-// The base of a slot that is not a leaf.
-pub fn base_of(image: &[u8], s: u32) -> u32
-    requires whole { Whole image.now }
-    requires s_bound { s < slot_count image.now }
-    ensures { result ≡ base image.now s }
-{
-    base_word(image, s) % TOP_BIT
-}
+    #[tactic(auto, unfolding(lxtr_spec::specs::Image::check_word))]
+    pub fn check_word(&self, s: u32) -> u32
+        requires { s < slot_count self.now }
+        ensures { result ≡ check_word self.now s }
+    {
+        le32_at(self.bytes, HEADER_LENGTH + 8 * s as usize + 4)
+    }
 
-// The value number of a leaf.
-pub fn value_number(image: &[u8], s: u32) -> u32
-    requires whole { Whole image.now }
-    requires s_bound { s < slot_count image.now }
-    ensures { result ≡ value_number image.now s }
-{
-    base_word(image, s) % TOP_BIT
+    #[tactic(auto, unfolding(lxtr_spec::specs::Image::is_leaf))]
+    pub fn is_leaf(&self, s: u32) -> bool
+        requires { s < slot_count self.now }
+        ensures { result ≡ is_leaf self.now s }
+    {
+        TOP_BIT <= self.base_word(s)
+    }
+
+    #[tactic(auto, unfolding(lxtr_spec::specs::Image::has_leaf))]
+    pub fn has_leaf(&self, s: u32) -> bool
+        requires { s < slot_count self.now }
+        ensures { result ≡ has_leaf self.now s }
+    {
+        TOP_BIT <= self.check_word(s)
+    }
+
+    #[tactic(auto, unfolding(lxtr_spec::specs::Image::parent))]
+    pub fn parent(&self, s: u32) -> u32
+        requires { s < slot_count self.now }
+        ensures { result ≡ parent self.now s }
+    {
+        self.check_word(s) % TOP_BIT
+    }
+
+    // Whether slot t exists and has n as parent.
+    #[tactic(auto, unfolding(lxtr_spec::specs::Image::has_parent))]
+    pub fn has_parent(&self, t: u32, n: u32) -> bool
+        ensures { result ≡ has_parent self.now t n }
+    {
+        t < self.slot_count() && self.parent(t) == n
+    }
+
+    // The base of a slot that is not a leaf.
+    #[tactic(auto, unfolding(lxtr_spec::specs::Image::base))]
+    pub fn base(&self, s: u32) -> u32
+        requires { s < slot_count self.now }
+        ensures { result ≡ base self.now s }
+    {
+        self.base_word(s) % TOP_BIT
+    }
+
+    // The value number of a leaf. It is computed as the base of any other slot is.
+    #[tactic(auto, unfolding(lxtr_spec::specs::Image::value_number))]
+    pub fn value_number(&self, s: u32) -> u32
+        requires { s < slot_count self.now }
+        ensures { result ≡ value_number self.now s }
+    {
+        self.base_word(s) % TOP_BIT
+    }
+
+    // The slot that a code reaches from slot n.
+    #[tactic(auto, unfolding(lxtr_spec::specs::Image::slot_from))]
+    pub fn slot_from(&self, n: u32, code: u32) -> u32
+        requires { n < slot_count self.now }
+        ensures { result ≡ slot_from self.now n code }
+    {
+        slot_under(self.base(n), code)
+    }
+
+    // The code by which slot n reaches a slot.
+    #[tactic(auto, unfolding(lxtr_spec::specs::Image::code_to))]
+    pub fn code_to(&self, n: u32, slot: u32) -> u32
+        requires { n < slot_count self.now }
+        ensures { result ≡ code_to self.now n slot }
+    {
+        code_under(self.base(n), slot)
+    }
 }

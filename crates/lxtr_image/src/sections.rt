@@ -1,13 +1,16 @@
-// The three numbers of the header, and where each part of the image starts.
+// The three numbers of the header, where each part of the image starts, and what refusals 7 and 8 read. The header's tests call these
+// one after the other: each needs only what the tests before it leave, so there is no type for what is known in between.
 ghost use Rattle.std.specs.Prelude.{◌≡◌, ◌≤◌, length};
-ghost use Rattle.lxtr_spec.specs.Image.{header_length, slot_count, child_count, map_length, offsets_at, children_at, map_at};
-ghost use Rattle.lxtr_laws.specs.Passed.{Sized};
+ghost use Rattle.lxtr_spec.specs.Image.{header_length, slot_count, child_count, map_length, offsets_at, children_at, map_at, offset, map_version, label_count};
+ghost use Rattle.lxtr_laws.specs.Passed.{Sized, Whole};
 
+use lxtr_bytes::heads::{count_at, version_at};
 use lxtr_bytes::numbers::le32_at;
 
 pub const HEADER_LENGTH: usize = 24;
 
 // N: the number of slots.
+#[tactic(auto, unfolding(lxtr_spec::specs::Image::slot_count))]
 pub fn slot_count(image: &[u8]) -> u32
     requires { header_length ≤ length image.now }
     ensures { result ≡ slot_count image.now }
@@ -16,6 +19,7 @@ pub fn slot_count(image: &[u8]) -> u32
 }
 
 // E: the number of children.
+#[tactic(auto, unfolding(lxtr_spec::specs::Image::child_count))]
 pub fn child_count(image: &[u8]) -> u32
     requires { header_length ≤ length image.now }
     ensures { result ≡ child_count image.now }
@@ -24,6 +28,7 @@ pub fn child_count(image: &[u8]) -> u32
 }
 
 // M: the length of the code map in bytes.
+#[tactic(auto, unfolding(lxtr_spec::specs::Image::map_length))]
 pub fn map_length(image: &[u8]) -> u32
     requires { header_length ≤ length image.now }
     ensures { result ≡ map_length image.now }
@@ -50,4 +55,33 @@ pub fn map_at(image: &[u8]) -> usize
     ensures { result ≡ map_at image.now }
 {
     children_at(image) + 4 * child_count(image) as usize
+}
+
+// Offset p, where the list of slot p starts.
+#[tactic(auto, unfolding(lxtr_spec::specs::Image::offset))]
+pub fn offset_at(image: &[u8], p: u32) -> u32
+    requires whole { Whole image.now }
+    requires p_bound { p ≤ slot_count image.now }
+    ensures { result ≡ offset image.now p }
+{
+    le32_at(image, offsets_at(image) + 4 * p as usize)
+}
+
+#[tactic(auto, unfolding(lxtr_spec::specs::Image::map_version))]
+pub fn map_version(image: &[u8]) -> u8
+    requires whole { Whole image.now }
+    requires bound { 5 ≤ map_length image.now }
+    ensures { result ≡ map_version image.now }
+{
+    version_at(image, map_at(image))
+}
+
+// How many labels are listed.
+#[tactic(auto, unfolding(lxtr_spec::specs::Image::label_count))]
+pub fn label_count(image: &[u8]) -> u32
+    requires whole { Whole image.now }
+    requires bound { 5 ≤ map_length image.now }
+    ensures { result ≡ label_count image.now }
+{
+    count_at(image, map_at(image))
 }
