@@ -14,7 +14,7 @@ same_fault true false f g = g refl
 same_fault false t f g = sym (f refl)
 
 module _ (a b c d : ℕ) (ha : a < 2 ^ 8) (hb : b < 2 ^ 8) (hc : c < 2 ^ 8) (hd : d < 2 ^ 8) where
-  pub magic_number : (w m : ℕ) → w ≡ a + b * 2 ^ 8 + c * 2 ^ 16 + d * 2 ^ 24 → m ≡ 0x4C + 0x58 * 2 ^ 8 + 0x54 * 2 ^ 16 + 0x52 * 2 ^ 24 → not (eqb w m) ≡ magic_differs (a ∷ b ∷ c ∷ d ∷ [])
+  pub magic_number : (w m : ℕ) → w ≡ a + b * 2 ^ 8 + c * 2 ^ 16 + d * 2 ^ 24 → m ≡ 0x5254584C → not (eqb w m) ≡ magic_differs (a ∷ b ∷ c ∷ d ∷ [])
   unfolding magic_differs byte_differs any_below magic
   magic_number w m e f =
       same_fault _ _
@@ -22,7 +22,7 @@ module _ (a b c d : ℕ) (ha : a < 2 ^ 8) (hb : b < 2 ^ 8) (hc : c < 2 ^ 8) (hd 
       (λ h. let q = simp tests at h in simp tests (omega arith))
 
 -- v is the version byte, and w the number that begins with it; z is the number at the header's end
-pub reserved_numbers : (b : List ℕ) (w v z : ℕ) → w ≡ le32 b 4 → v ≡ byte_at b 4 + 0 * 2 ^ 8 + 0 * 2 ^ 16 + 0 * 2 ^ 24 → z ≡ le32 b 20 → (not (eqb w v) || not (eqb z 0)) ≡ reserved_set b
+pub reserved_numbers : (b : List ℕ) (w v z : ℕ) → w ≡ le32 b 4 → v ≡ byte_at b 4 → z ≡ le32 b 20 → (not (eqb w v) || not (eqb z 0)) ≡ reserved_set b
 unfolding reserved_set le32
 reserved_numbers b w v z e f g =
     same_fault _ _

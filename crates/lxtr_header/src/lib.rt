@@ -1,40 +1,35 @@
-// Refusals 1 to 8 of an image, for any bytes: a test for each fault, then the first refusal that holds. Any caller may use
-// `header_refusal`.
+// Refusals 1 to 8 of an image, for any bytes: a test for each fault, then the first refusal that holds. Any caller may use `read`:
+// bytes that none of them refuses are an `Image`.
 #![tactic(auto)]
 
-ghost use Rattle.std.specs.Prelude.{◌≡◌, [], ◌∷◌, ◌≤◌, length};
+ghost use Rattle.std.specs.Prelude.{◌≡◌, ◌≤◌, length, IfOk};
 ghost use Rattle.lxtr_spec.specs.Image.{header_length};
 ghost use Rattle.lxtr_spec.specs.Refusals.{magic_differs, version_wrong, reserved_set, sizes_wrong, length_wrong, map_wrong, offset_ends_wrong, refuse_if, header_refusal};
+ghost use Rattle.lxtr_spec.specs.Answers.{refusal_of};
 ghost use Rattle.lxtr_laws.specs.Passed.{Sized, Whole};
 
 use lxtr_bytes::heads::{HEAD_LENGTH, VERSION};
-use lxtr_bytes::numbers::{le32_at, word};
-use lxtr_image::code_map::{label_count, map_version};
-use lxtr_image::lists::offset_at;
-use lxtr_image::sections::{HEADER_LENGTH, child_count, map_at, map_length, slot_count};
-use lxtr_spec::refusals::{
-    IMAGE_TOO_SHORT, NOT_LXTR, RESERVED_SET, WRONG_IMAGE_LENGTH, WRONG_MAP, WRONG_OFFSET_ENDS,
-    WRONG_SIZES, WRONG_VERSION,
+use lxtr_bytes::numbers::le32_at;
+use lxtr_image::Image;
+use lxtr_image::sections::{
+    HEADER_LENGTH, child_count, label_count, map_at, map_length, map_version, offset_at, slot_count,
 };
+use lxtr_spec::refusals::Refusal;
 use lxtr_spec::{MAX_LISTED, MAX_SLOTS, MIN_SLOTS};
 
-// Whether four bytes differ from `LXTR`. They are compared as one number, so that the compiler inlines the test.
-fn four_differ(a: u8, b: u8, c: u8, d: u8) -> bool
-    ensures { result ≡ magic_differs (a ∷ b ∷ c ∷ d ∷ []) }
-{
-    let magic = b"LXTR";
-    word(a, b, c, d) != word(magic[0], magic[1], magic[2], magic[3])
-}
+// The bytes `LXTR` as a number, so that the four bytes are compared at once.
+const MAGIC: u32 = 0x5254_584C;
 
 // 2: first four bytes differ from `LXTR`.
 fn magic_differs(image: &[u8]) -> bool
     requires { header_length ≤ length image.now }
     ensures { result ≡ magic_differs image.now }
 {
-    four_differ(image[0], image[1], image[2], image[3])
+    u32::from_le_bytes([image[0], image[1], image[2], image[3]]) != MAGIC
 }
 
 // 3: version is not 3.
+#[tactic(auto, unfolding(lxtr_spec::specs::Image::version, lxtr_spec::specs::Refusals::version_wrong))]
 fn version_wrong(image: &[u8]) -> bool
     requires { header_length ≤ length image.now }
     ensures { result ≡ version_wrong image.now }
@@ -47,7 +42,7 @@ fn reserved_set(image: &[u8]) -> bool
     requires { header_length ≤ length image.now }
     ensures { result ≡ reserved_set image.now }
 {
-    let after_version = le32_at(image, 4) != word(image[4], 0, 0, 0);
+    let after_version = le32_at(image, 4) != image[4] as u32;
     let at_end = le32_at(image, 20) != 0;
     after_version | at_end
 }
@@ -66,6 +61,7 @@ fn sizes_wrong(image: &[u8]) -> bool
 }
 
 // 6: length differs from the sum.
+#[tactic(auto, unfolding(lxtr_spec::specs::Refusals::length_wrong))]
 fn length_wrong(image: &[u8]) -> bool
     requires { Sized image.now }
     ensures { result ≡ length_wrong image.now }
@@ -94,42 +90,44 @@ fn offset_ends_wrong(image: &[u8]) -> bool
     (offset_at(image, 0) != 0) | (offset_at(image, slot_count(image)) != child_count(image))
 }
 
-// The first of refusals 6 to 8 that holds, or 0, for bytes that passed 1 to 5. These are a function of their own because the
-// compiler does not inline a test that follows six others.
-fn parts_refusal(image: &[u8]) -> u8
+// The first of refusals 6 to 8 that holds, for bytes that passed 1 to 5. These are a function of their own because the compiler does
+// not inline a test that follows six others.
+fn read_parts(image: &[u8]) -> Result<Image<'_>, Refusal>
     requires { Sized image.now }
-    ensures { result ≡ refuse_if (length_wrong image.now) 6 (refuse_if (map_wrong image.now) 7 (refuse_if (offset_ends_wrong image.now) 8 0)) }
+    ensures refusal { refusal_of result ≡ refuse_if (length_wrong image.now) 6 (refuse_if (map_wrong image.now) 7 (refuse_if (offset_ends_wrong image.now) 8 0)) }
+    ensures bytes { IfOk result (λ i. i ≡ image.now) }
 {
     if length_wrong(image) {
-        return WRONG_IMAGE_LENGTH;
+        return Err(Refusal::WrongImageLength);
     }
     if map_wrong(image) {
-        return WRONG_MAP;
+        return Err(Refusal::WrongMap);
     }
     if offset_ends_wrong(image) {
-        return WRONG_OFFSET_ENDS;
+        return Err(Refusal::WrongOffsetEnds);
     }
-    0
+    Ok(Image::new(image))
 }
 
-// The first of refusals 1 to 8 that holds, or 0, for any bytes.
-pub fn header_refusal(image: &[u8]) -> u8
-    ensures { result ≡ header_refusal image.now }
+// The image, or the first of refusals 1 to 8 that holds, for any bytes.
+pub fn read(image: &[u8]) -> Result<Image<'_>, Refusal>
+    ensures refusal { refusal_of result ≡ header_refusal image.now }
+    ensures bytes { IfOk result (λ i. i ≡ image.now) }
 {
     if image.len() < HEADER_LENGTH {
-        return IMAGE_TOO_SHORT;
+        return Err(Refusal::ImageTooShort);
     }
     if magic_differs(image) {
-        return NOT_LXTR;
+        return Err(Refusal::NotLxtr);
     }
     if version_wrong(image) {
-        return WRONG_VERSION;
+        return Err(Refusal::WrongVersion);
     }
     if reserved_set(image) {
-        return RESERVED_SET;
+        return Err(Refusal::ReservedSet);
     }
     if sizes_wrong(image) {
-        return WRONG_SIZES;
+        return Err(Refusal::WrongSizes);
     }
-    parts_refusal(image)
+    read_parts(image)
 }

@@ -1,0 +1,34 @@
+-- Each return is a chain of faults that are not there, ended by one that is or by none; after refusal 5 the sizes are known.
+use Rattle.std.proofs.Common.{arith}
+use borrow.Author.Tests.{lt-ltb, le-ltb}
+use Rattle.lxtr_spec.specs.Refusals.{too_short, header_refusal}
+use Rattle.lxtr_laws.specs.RefusalChains.{refused, goes_on, chain}
+use Rattle.lxtr_laws.specs.Passed.{sized_by}
+use Rattle.lxtr_header.proofs.read.Goals as goal
+
+pub returns-then-image-lt-HEADER_LENGTH-clause-refusal : goal.returns-then-image-lt-HEADER_LENGTH-clause-refusal
+unfolding header_refusal too_short
+returns-then-image-lt-HEADER_LENGTH-clause-refusal c = search (refused, lt-ltb)
+
+pub returns-then-magic_differs-clause-refusal : goal.returns-then-magic_differs-clause-refusal
+unfolding header_refusal too_short
+returns-then-magic_differs-clause-refusal c = search (chain, goes_on, le-ltb)
+
+pub returns-then-version_wrong-clause-refusal : goal.returns-then-version_wrong-clause-refusal
+unfolding header_refusal too_short
+returns-then-version_wrong-clause-refusal c = search (chain, goes_on, le-ltb)
+
+pub returns-then-reserved_set-clause-refusal : goal.returns-then-reserved_set-clause-refusal
+unfolding header_refusal too_short
+returns-then-reserved_set-clause-refusal c = search (chain, goes_on, le-ltb)
+
+pub returns-then-sizes_wrong-clause-refusal : goal.returns-then-sizes_wrong-clause-refusal
+unfolding header_refusal too_short
+returns-then-sizes_wrong-clause-refusal c = search (chain, goes_on, le-ltb)
+
+pub returns-clause-refusal : goal.returns-clause-refusal
+unfolding header_refusal too_short
+returns-clause-refusal c = search (chain, goes_on, le-ltb)
+
+pub read_parts-requires : goal.read_parts-requires
+read_parts-requires c = sized_by _ (omega arith) c.sizes_wrong.ensures c.if-sizes_wrong.false
