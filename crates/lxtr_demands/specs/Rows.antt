@@ -1,5 +1,5 @@
 -- Rows of a table of examples: what is run on the definitions, and what it has to give.
-use Rattle.std.specs.Prelude.{ℕ, ◌+◌, ◌-◌, ◌*◌, ◌^◌, ◌≡◌, List, [], ◌++◌, true, false, cond, ltb, length, replicate, Option, None}
+use Rattle.std.specs.Prelude.{ℕ, ◌+◌, ◌-◌, ◌*◌, ◌^◌, ◌≡◌, List, [], ◌++◌, true, false, cond, ltb, length, replicate, Option, Some, None}
 use Rattle.lxtr_spec.specs.Ranges.{any_below, count_below, first_from, first_below, concat_from}
 use Rattle.lxtr_spec.specs.Numbers.{le32, be32, le_bytes, be_bytes, le_words, be_words}
 use Rattle.lxtr_spec.specs.Labels.{Pair, is_scalar, max_labels, length_count, comes_before, labels_from, labels_of}
@@ -23,7 +23,6 @@ use Rattle.lxtr_spec.specs.declared.Case.{Case}
 use Rattle.lxtr_spec.specs.declared.Case.TheVariants.{Neither}
 use Rattle.lxtr_spec.specs.declared.Fault.{Fault}
 use Rattle.lxtr_spec.specs.declared.Reason.{Reason}
-use Rattle.lxtr_spec.specs.declared.Reason.TheVariants.{NoReason}
 use Rattle.lxtr_laws.specs.ExampleTables as tables
 pub use Rattle.lxtr_laws.specs.ExampleTables.{◌and◌}
 use Rattle.lxtr_demands.specs.TypingPositions.{Move, moved, moved_by, defined_moves, library, defined_host_moves, host}
@@ -39,7 +38,7 @@ pub data Example : Type 0 where
   -- a refused image, its refusal
   refused : List ℕ → ℕ → Example
   -- an image, where its fault lies, number for the host program
-  fault_at : List ℕ → Fault → ℕ → Example
+  fault_at : List ℕ → Option Fault → ℕ → Example
   -- an accepted image, the highest value of its set, number for the host program; and a refused image, its refusal
   highest : List ℕ → Option ℕ → ℕ → Example
   highest_refused : List ℕ → ℕ → Example
@@ -106,8 +105,8 @@ Holds (position_stays b p k) =
     (push_of b p 0x61 ≡ record { refusal = k; position = p }) × (host_push_of b (position_number p) 0x61 ≡ position_number p)
     × (back_of b p ≡ record { refusal = k; position = p }) × (host_back_of b (position_number p) ≡ position_number p)
     × (position_lookup_of b p ≡ record { refusal = k; case = Neither }) × (position_probe_number b (position_number p) ≡ k * 2 ^ 40)
-Holds (why b xs r n) = (why_of b (be_words xs) ≡ record { refusal = 0; reason = r }) × (why_number b (be_words xs) ≡ n)
-Holds (why_refused b q k) = (why_of b q ≡ record { refusal = k; reason = NoReason }) × (why_number b q ≡ k * 2 ^ 40)
+Holds (why b xs r n) = (why_of b (be_words xs) ≡ record { refusal = 0; reason = Some r }) × (why_number b (be_words xs) ≡ n)
+Holds (why_refused b q k) = (why_of b q ≡ record { refusal = k; reason = None }) × (why_number b q ≡ k * 2 ^ 40)
 Holds (query_refused b q k) =
     (lookup_of b q ≡ record { refusal = k; case = Neither }) × (exact_number b q ≡ k * 2 ^ 40) × (probe_number b q ≡ k * 2 ^ 40)
     × (prefixes_of b q ≡ record { refusal = k; count = 0; lengths = replicate length_count 0; values = replicate length_count 0 })

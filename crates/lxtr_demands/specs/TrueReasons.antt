@@ -8,7 +8,7 @@ use Rattle.lxtr_spec.specs.Searches.{search_refusal, case_value, value_within, l
 use Rattle.lxtr_spec.specs.Sets.{PairSet, Has, Prefix, Listed, ImageOf}
 use Rattle.lxtr_spec.specs.Meaning.{Longer}
 use Rattle.lxtr_spec.specs.declared.Reason.{Reason}
-use Rattle.lxtr_spec.specs.declared.Reason.TheVariants.{NoReason, IsFound, NotListed, NoStep, NoKeyEnds, TooLong}
+use Rattle.lxtr_spec.specs.declared.Reason.TheVariants.{IsFound, NotListed, NoStep, NoKeyEnds, TooLong}
 use Rattle.lxtr_spec.specs.Reasons.{Why}
 
 -- the labels walk: from slot 1 they reach a slot
@@ -29,7 +29,6 @@ pub record StopsAt (b xs : List ℕ) (i : ℕ) : Type 0 where
 
 -- What each reason says of the labels xs, over any bytes. Only a refused query has no reason.
 abbrev pub TrueReason : List ℕ → List ℕ → Reason → Type 0
-TrueReason b xs NoReason = ⊥
 TrueReason b xs IsFound = (v : ℕ) × (value_within b xs ≡ Some v)
 TrueReason b xs (NotListed i) = StopsAt b xs i × (ListedAt b xs i → ⊥)
 TrueReason b xs (NoStep i) = StopsAt b xs i × ListedAt b xs i
@@ -45,7 +44,6 @@ pub record StopsIn (d : PairSet) (xs : List ℕ) (i : ℕ) : Type 0 where
 
 -- "No key ends there" means that the labels are none or a proper front part of a key, and no key.
 abbrev pub ReasonIn : List ℕ → PairSet → List ℕ → Reason → Type 0
-ReasonIn b d xs NoReason = ⊥
 ReasonIn b d xs IsFound = (v : ℕ) × Has d xs v
 ReasonIn b d xs (NotListed i) = StopsIn d xs i × (ListedAt b xs i → ⊥)
 ReasonIn b d xs (NoStep i) = StopsIn d xs i × ListedAt b xs i
@@ -55,15 +53,15 @@ ReasonIn b d xs TooLong = max_labels < length xs
 -- what a program answers, and what holds of the reasons
 pub record WhyDemand (why : List ℕ → List ℕ → Why) : Type 0 where
   -- Refusals: 1 to 8, then 13, no reason.
-  pub refused : (b q : List ℕ) → search_refusal b q ≢ 0 → why b q ≡ record { refusal = search_refusal b q; reason = NoReason }
+  pub refused : (b q : List ℕ) → search_refusal b q ≢ 0 → why b q ≡ record { refusal = search_refusal b q; reason = None }
   -- Otherwise the answer is the true reason.
-  pub answer : (b q : List ℕ) (r : Reason) → search_refusal b q ≡ 0 → TrueReason b (labels_of q) r → why b q ≡ record { refusal = 0; reason = r }
+  pub answer : (b q : List ℕ) (r : Reason) → search_refusal b q ≡ 0 → TrueReason b (labels_of q) r → why b q ≡ record { refusal = 0; reason = Some r }
   -- There is one,
   pub some_reason : (b xs : List ℕ) → (r : Reason) × TrueReason b xs r
   -- and only one.
   pub one_reason : (b xs : List ℕ) (r s : Reason) → TrueReason b xs r → TrueReason b xs s → r ≡ s
   -- It answers found exactly when lookup gives a value.
-  pub found_by_lookup : (b q : List ℕ) → ((why b q).reason ≡ IsFound) ↔ ((v : ℕ) × (case_value (lookup_of b q).case ≡ Some v))
+  pub found_by_lookup : (b q : List ℕ) → ((why b q).reason ≡ Some IsFound) ↔ ((v : ℕ) × (case_value (lookup_of b q).case ≡ Some v))
   -- Over an image of the set d the true reason is what the set says;
   pub in_set : (b : List ℕ) (d : PairSet) (xs : List ℕ) (r : Reason) → ImageOf b d → TrueReason b xs r ↔ ReasonIn b d xs r
   -- and no key has a label that is not listed.

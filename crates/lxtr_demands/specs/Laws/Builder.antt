@@ -4,7 +4,7 @@ use Rattle.std.specs.Prelude.{ℕ, zero, suc, ◌<◌, ◌≤◌, ◌≡◌, ref
 use Rattle.std.proofs.Common.{arith, sym, ap, ap₂, ◌∙◌, subst, inl, inr}
 use Rattle.std.proofs.Math.Decide.{dec_lt, ℕ_discrete}
 use mathlib.Core.List.{List}
-use Rattle.lxtr_laws.specs.StepFacts.{none_not_some}
+use Rattle.std.proofs.lemmas.Option.{none-some}
 use Rattle.lxtr_spec.specs.Labels.{length_count, max_listed, Pair}
 use Rattle.lxtr_spec.specs.KeyLists.{pairs_of, list_refusal}
 use Rattle.lxtr_spec.specs.CodeMaps.{frequency, map_of, code_in, label_with}
@@ -111,7 +111,7 @@ module _ (keys work out : List ℕ) where
       by_room p image f h (no n) = inl (image, record { passes = p; by_first_fit = f; few_labels = h; room = omega arith })
 
       by_place : ListPasses keys work → length map ≤ max_listed → (o : Option (List ℕ)) → placed_in W ps map ≡ o → Decision
-      by_place p h None e = inr (22, no_base map p (codes_by_frequency.listed ps) h (λ image f. none_not_some (sym e ∙ image_placed image f)))
+      by_place p h None e = inr (22, no_base map p (codes_by_frequency.listed ps) h (λ image f. none-some f.work (sym e ∙ image_placed image f)))
       by_place p h (Some w) e =
           let f = placed_image w e in
           let image : List ℕ = image_in w (slots_used w (slots_in W)) map in

@@ -1,11 +1,11 @@
 -- An image passes the check, and its set is what walks find in it.
 -- Both are decidable, so it is enough that no slot can fail to be of one of the kinds, and this is what document 01's rules say.
-use Rattle.std.specs.Prelude.{ℕ, zero, suc, ◌<◌, ◌≡◌, List}
-use Rattle.std.proofs.Common.{not-suc-le-zero, le_refl, arith, subst, ⊎_elim}
+use Rattle.std.specs.Prelude.{ℕ, zero, suc, ◌<◌, ◌≡◌, List, Option, Some, None}
+use Rattle.std.proofs.Common.{refl, sym, ap, not-suc-le-zero, le_refl, arith, subst, ⊎_elim}
 use Rattle.std.proofs.Math.Decide.{ℕ_discrete}
 use Rattle.std.proofs.Math.Path.{fun_ext}
+use Rattle.std.proofs.lemmas.Option.{none-some, same_Some}
 use Rattle.std.proofs.Math.Logic.Dec as Dec
-use Rattle.std.proofs.Math.Option.{discrete}
 use Rattle.lxtr_spec.specs.Image.{slot_count}
 use Rattle.lxtr_spec.specs.Refusals.{image_refusal}
 use Rattle.lxtr_spec.specs.Walks.{value_of}
@@ -19,6 +19,13 @@ use Rattle.lxtr_demands.specs.Laws.Slots.{set_is}
 use Rattle.lxtr_demands.specs.Laws.SlotsPass.{slot_right}
 use Rattle.lxtr_demands.specs.Laws.ListsPass.{lists_right, slot_reaches}
 use Rattle.lxtr_demands.specs.Laws.Sound.{sound}
+
+-- whether two values, or none, are the same
+same_value : (o p : Option ℕ) → Dec (o ≡ p)
+same_value None None = yes refl
+same_value None (Some w) = no (none-some w)
+same_value (Some v) None = no (λ e. none-some v (sym e))
+same_value (Some v) (Some w) = elim (ℕ_discrete v w) [ yes e ↦ yes (ap {B = Option ℕ} Some e) | no n ↦ no (λ e. n (same_Some v w e)) ]
 
 complete : {b : List ℕ} {d : PairSet} → KnownImage b d → Accepted b
 complete known =
@@ -54,7 +61,7 @@ module _ {b : List ℕ} {d : PairSet} (image : ImageOf b d) where
   image_passes = (Dec.not-not (ℕ_discrete (image_refusal b) 0)).0 (λ n. not_unknown (λ known. n ((accepted b).1 (complete known))))
 
   pub image_set : d ≡ value_of b
-  image_set = fun_ext (λ k. (Dec.not-not (discrete ℕ_discrete (d k) (value_of b k))).0 (λ n. not_unknown (λ known. n (set_is known k))))
+  image_set = fun_ext (λ k. (Dec.not-not (same_value (d k) (value_of b k))).0 (λ n. not_unknown (λ known. n (set_is known k))))
 
   -- so it is known what each slot is
   pub known_image : KnownImage b d

@@ -4,9 +4,9 @@
 use Prim.Native.Nat.{ℕ, ◌+◌, ◌-◌, ◌≤◌, ◌<◌}
 use native.Mathlib.Omega.{arith}
 use Rattle.std.proofs.Math.Decide.{dec_lt}
-use Rattle.std.specs.Prelude.{◌≡◌, ◌≢◌, List, Bool, eqb}
+use Rattle.std.specs.Prelude.{◌≡◌, ◌≢◌, List, Bool, eqb, Option, Some, None}
 use Rattle.std.proofs.Math.Path.{refl}
-use Rattle.std.proofs.Common.{sym, ◌∙◌}
+use Rattle.std.proofs.Common.{sym, ap, ◌∙◌}
 use Rattle.std.proofs.Math.Bool.{true, false, not, true≢false}
 use borrow.Author.Tests.{eqb-true, eqb-false, eq-eqb, ne_eqb}
 use Rattle.lxtr_spec.specs.Ranges.{any_below, first_below}
@@ -15,7 +15,7 @@ use Rattle.lxtr_spec.specs.Refusals.{labels_wrong, slots_wrong, is_used_from2, o
 use Rattle.lxtr_spec.specs.FaultPlaces.{fault_if, label_fault, slot_fault, offset_fault, entry_fault_of, entry_fault, is_entry, unlisted, unlisted_fault, childless_fault, list_fault, reach_fault, fault_by, fault_of}
 use Rattle.lxtr_spec.specs.Sets.{InList}
 use Rattle.lxtr_spec.specs.declared.Fault.{Fault}
-use Rattle.lxtr_spec.specs.declared.Fault.TheVariants.{Nowhere, Label, Slot, Offset, Entry, Unlisted, Childless, RootBase, Unreachable}
+use Rattle.lxtr_spec.specs.declared.Fault.TheVariants.{Label, Slot, Offset, Entry, Unlisted, Childless, RootBase, Unreachable}
 use Rattle.lxtr_laws.specs.Tests.{is_false, and_is_true, and_is_false, not_is_true, not_is_false}
 use Rattle.lxtr_laws.specs.RangeTests.{any_true, any_false}
 use Rattle.lxtr_laws.specs.Firsts.{first_below_lem, one_first, some_first}
@@ -25,7 +25,7 @@ use Rattle.lxtr_laws.specs.Facts.{UsedFrom2}
 use Rattle.lxtr_laws.specs.Faults.{used_from_2, slots_right, offsets_right, entry_right, entries_right}
 use Rattle.lxtr_laws.specs.Refused.{refusal_most, refused_passed, slots_right_by, refused_9, refused_10, refused_11, refused_12}
 use Rattle.lxtr_laws.specs.ListEntries.{EntriesRight}
-use Rattle.lxtr_demands.specs.RightPlaces.{First, None, entry_faulty, FirstEntry, OffsetsRise, EntriesHold, AllListed, Right, FaultRight}
+use Rattle.lxtr_demands.specs.RightPlaces.{First, NoneBelow, entry_faulty, FirstEntry, OffsetsRise, EntriesHold, AllListed, Right, FaultRight}
 use Rattle.lxtr_demands.specs.Laws.Lists.{used_listed, listed_counted, own_list}
 
 -- if some number passes, the search finds the first
@@ -98,7 +98,7 @@ module _ (b : List ℕ) where
         let within = (in_list b (parent b s) j).1 (omega arith, omega (arith, i.1)) in
         (j, omega (arith, ok.last, in_children b entries.rising (parent b s) j (((slots_right b).0 slots s l).used u).parent_below within), eqb-true (child b j) s i.2)
 
-    none_unlisted : child_count b ≡ used_count b → None (slot_count b) (unlisted b)
+    none_unlisted : child_count b ≡ used_count b → NoneBelow (slot_count b) (unlisted b)
     unfolding unlisted is_entry
     none_unlisted e s l = is_false (unlisted b s) (λ t.
         let parts = (and_is_true (is_used_from2 b s) _).0 t in
@@ -120,23 +120,26 @@ module _ (b : List ℕ) where
     all_listed e = (entries_hold, e, none_unlisted e)
 
   -- the choice is right, if the fault here is right when it is there, and what comes after it when it is not
-  either : (t : Bool) (here later : Fault) → (t ≡ true → Right b here) → (t ≡ false → Right b later) → Right b (fault_if t here later)
+  either : {A : Type 0} (P : A → Type 0) (t : Bool) (here later : A) → (t ≡ true → P here) → (t ≡ false → P later) → P (fault_if t here later)
   unfolding fault_if
-  either true here later f g = f refl
-  either false here later f g = g refl
+  either P true here later f g = f refl
+  either P false here later f g = g refl
 
-  list_right : image_refusal b ≡ 11 → Right b (list_fault b)
+  abbrev RightFault : Fault → Type 0
+  RightFault f = Right b (Some f)
+
+  list_right : image_refusal b ≡ 11 → RightFault (list_fault b)
   unfolding list_fault offset_fault entry_fault entry_fault_of unlisted_fault childless_fault
   list_right k =
       let ok = refused_passed b 11 (omega arith) k in
       let slots = slots_right_by b 11 (omega arith) k (omega arith) in
-      either (any_below (slot_count b) (offset_falls b)) (offset_fault b) _ (λ t. (k, first_is _ _ t)) (λ rise.
-      either (any_below (slot_count b) (entries_wrong b)) (entry_fault b) _
+      either RightFault (any_below (slot_count b) (offset_falls b)) (offset_fault b) _ (λ t. (k, first_is _ _ t)) (λ rise.
+      either RightFault (any_below (slot_count b) (entries_wrong b)) (entry_fault b) _
       (λ t. let none = (any_false (slot_count b) (offset_falls b)).0 rise in (k, none, entry_right_at none _ (first_is _ _ t))) (λ right.
-      either (not (eqb (child_count b) (used_count b))) (unlisted_fault b) _
+      either RightFault (not (eqb (child_count b) (used_count b))) (unlisted_fault b) _
       (λ t. let differs = eqb-false _ _ ((not_is_true _).0 t) in (k, entries_hold ok rise right, differs, first_is _ _ (some_unlisted ok rise right slots differs))) (λ same.
       let listed = all_listed ok rise right (eqb-true _ _ ((not_is_false _).0 same)) in
-      either (any_below (slot_count b) (childless b)) (childless_fault b) RootBase (λ t. (k, listed, first_is _ _ t)) (λ lone.
+      either RightFault (any_below (slot_count b) (childless b)) (childless_fault b) RootBase (λ t. (k, listed, first_is _ _ t)) (λ lone.
       (k, listed, (any_false (slot_count b) (childless b)).0 lone, root rise right same lone (refused_11 b k))))))
     where
       root : any_below (slot_count b) (offset_falls b) ≡ false → any_below (slot_count b) (entries_wrong b) ≡ false → not (eqb (child_count b) (used_count b)) ≡ false
@@ -147,10 +150,10 @@ module _ (b : List ℕ) where
   unfolding fault_of fault_by label_fault slot_fault reach_fault labels_wrong slots_wrong some_unreachable
   answer_right =
       let k = image_refusal b in
-      either (eqb k 9) (label_fault b) _ (λ t. let e = eqb-true k 9 t in (e, first_is _ _ (refused_9 b e))) (λ not-9.
-      either (eqb k 10) (slot_fault b) _ (λ t. let e = eqb-true k 10 t in (e, first_is _ _ (refused_10 b e))) (λ not-10.
-      either (eqb k 11) (list_fault b) _ (λ t. list_right (eqb-true k 11 t)) (λ not-11.
-      either (eqb k 12) (reach_fault b) _ (λ t. let e = eqb-true k 12 t in (e, first_is _ _ (refused_12 b e))) (λ not-12.
+      either (Right b) (eqb k 9) (Some (label_fault b)) _ (λ t. let e = eqb-true k 9 t in (e, first_is _ _ (refused_9 b e))) (λ not-9.
+      either (Right b) (eqb k 10) (Some (slot_fault b)) _ (λ t. let e = eqb-true k 10 t in (e, first_is _ _ (refused_10 b e))) (λ not-10.
+      either (Right b) (eqb k 11) (Some (list_fault b)) _ (λ t. list_right (eqb-true k 11 t)) (λ not-11.
+      either (Right b) (eqb k 12) (Some (reach_fault b)) _ (λ t. let e = eqb-true k 12 t in (e, first_is _ _ (refused_12 b e))) (λ not-12.
       omega (arith, refusal_most b, eqb-false k 9 not-9, eqb-false k 10 not-10, eqb-false k 11 not-11, eqb-false k 12 not-12)))))
 
   -- Conversely: what a right answer says decides the tests of the definition.
@@ -185,20 +188,20 @@ module _ (b : List ℕ) where
         let k : offset b p + (j - offset b p) ≡ j = omega (arith, e.within.from) in
         rw (first_only _ _ p list_of_lem, first_only _ _ (j - offset b p) place_in_lem, k)
 
-  answer_only : (f : Fault) → Right b f → f ≡ fault_of b
+  answer_only : (f : Option Fault) → Right b f → f ≡ fault_of b
   unfolding fault_of fault_by fault_if label_fault slot_fault list_fault offset_fault unlisted_fault childless_fault reach_fault
-  answer_only Nowhere h =
+  answer_only None h =
       let k = image_refusal b in
       rw (ne_eqb k 9 (λ z. omega arith), ne_eqb k 10 (λ z. omega arith), ne_eqb k 11 (λ z. omega arith), ne_eqb k 12 (λ z. omega arith))
-  answer_only (Label i) (e, h) = rw (e, first_only _ _ i h)
-  answer_only (Slot s) (e, h) = rw (e, first_only _ _ s h)
-  answer_only (Offset p) (e, h) = rw (e, some_of _ _ p h, first_only _ _ p h)
-  answer_only (Entry p j) (e, rise, h) = rw (e, none_falls rise, some_of _ _ p (list_of_lem rise p j h)) (entry_only rise p j h)
-  answer_only (Unlisted s) (e, hold, differs, h) = rw (e, none_falls hold.0, none_wrong hold, ne_eqb (child_count b) (used_count b) differs, first_only _ _ s h)
-  answer_only (Childless s) (e, (hold, same, _), h) = rw (e, none_falls hold.0, none_wrong hold, eq-eqb (child_count b) (used_count b) same, some_of _ _ s h, first_only _ _ s h)
-  answer_only RootBase (e, (hold, same, _), none, _) =
+  answer_only (Some (Label i)) (e, h) = rw (e, first_only _ _ i h)
+  answer_only (Some (Slot s)) (e, h) = rw (e, first_only _ _ s h)
+  answer_only (Some (Offset p)) (e, h) = rw (e, some_of _ _ p h, first_only _ _ p h)
+  answer_only (Some (Entry p j)) (e, rise, h) = rw (e, none_falls rise, some_of _ _ p (list_of_lem rise p j h)) (ap {B = Option Fault} Some (entry_only rise p j h))
+  answer_only (Some (Unlisted s)) (e, hold, differs, h) = rw (e, none_falls hold.0, none_wrong hold, ne_eqb (child_count b) (used_count b) differs, first_only _ _ s h)
+  answer_only (Some (Childless s)) (e, (hold, same, _), h) = rw (e, none_falls hold.0, none_wrong hold, eq-eqb (child_count b) (used_count b) same, some_of _ _ s h, first_only _ _ s h)
+  answer_only (Some RootBase) (e, (hold, same, _), none, _) =
       rw (e, none_falls hold.0, none_wrong hold, eq-eqb (child_count b) (used_count b) same, (any_false (slot_count b) (childless b)).1 none)
-  answer_only (Unreachable s) (e, h) = rw (e, first_only _ _ s h)
+  answer_only (Some (Unreachable s)) (e, h) = rw (e, first_only _ _ s h)
 
 pub fault_right : (b : List ℕ) → FaultRight b
 fault_right b = record { right = answer_right b; only = answer_only b }

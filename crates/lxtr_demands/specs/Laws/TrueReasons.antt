@@ -1,6 +1,7 @@
 -- Label by label, a walk goes on to the end or stops at a first place, and the reason is read off there. Only this reason is true,
 -- because the walk of a front part has one outcome. Over an image the labels that walk are the prefixes of its set's keys.
 use Rattle.std.specs.Prelude.{ℕ, zero, suc, ◌+◌, ◌≤◌, ◌<◌, ◌≡◌, ◌↔◌, ◌⊎◌, List, [], ◌∷◌, ◌++◌, length, take, get_or, Option, Some, None}
+use Rattle.std.proofs.lemmas.Option.{none-some, same_Some}
 use Rattle.std.proofs.Math.Decide.{dec_lt}
 use Rattle.std.proofs.Common.{add-one, arith, sym, ap, ◌∙◌, append-nil, length-append, length-take-le}
 use Rattle.std.proofs.Math.Path.{refl}
@@ -12,13 +13,13 @@ use Rattle.lxtr_spec.specs.Image.{code_of}
 use Rattle.lxtr_spec.specs.Refusals.{unless_refused}
 use Rattle.lxtr_spec.specs.Walks.{step_by, walk, value_at, value_reached, value_of}
 use Rattle.lxtr_spec.specs.Searches.{search_refusal, case_value, case_within, value_within, lookup_of}
-use Rattle.lxtr_spec.specs.Reasons.{ended_with, stopped_at, reason_of, why_of, reason_number}
+use Rattle.lxtr_spec.specs.Reasons.{ended_with, stopped_at, reason_of, why_of}
 use Rattle.lxtr_spec.specs.Sets.{PairSet, Has, Prefix, ImageOf}
 use Rattle.lxtr_spec.specs.Meaning.{Longer}
 use Rattle.lxtr_spec.specs.declared.Case.{Case}
 use Rattle.lxtr_spec.specs.declared.Case.TheVariants.{Neither}
 use Rattle.lxtr_spec.specs.declared.Reason.{Reason}
-use Rattle.lxtr_spec.specs.declared.Reason.TheVariants.{NoReason, IsFound, NotListed, NoStep, NoKeyEnds, TooLong}
+use Rattle.lxtr_spec.specs.declared.Reason.TheVariants.{IsFound, NotListed, NoStep, NoKeyEnds, TooLong}
 use Rattle.lxtr_laws.specs.RefusalChains.{stands}
 use Rattle.lxtr_laws.specs.StepFacts.{none_not_some, walk_empty, value_of_is}
 use Rattle.lxtr_laws.specs.Walking.{walk_front, walk_on, walk_stays}
@@ -123,7 +124,6 @@ module _ (b xs : List ℕ) where
 
   only_reason : (r : Reason) → TrueReason b xs r → reason_of b xs ≡ r
   unfolding ended_with
-  only_reason NoReason t = absurd t
   only_reason IsFound (v, e) = let r = value_walks v e in reason_ended (Some v) r.0 r.1 e
   only_reason (NotListed i) (s, out) = reason_stopped i s ∙ ⊎_elim (λ (e, _). e) (λ (_, is). absurd (out is)) (told i)
   only_reason (NoStep i) (s, is) = reason_stopped i s ∙ ⊎_elim (λ (_, out). absurd (out is)) (λ (e, _). e) (told i)
@@ -177,7 +177,6 @@ module _ {b : List ℕ} {d : PairSet} (image : ImageOf b d) (xs : List ℕ) wher
   )
 
   reason_in : (r : Reason) → TrueReason b xs r ↔ ReasonIn b d xs r
-  reason_in NoReason = Iff.rfl
   reason_in IsFound = rw (lookup_set known) Iff.rfl
   reason_in (NotListed i) = (λ (s, out). ((stops_in i).0 s, out), λ (s, out). ((stops_in i).1 s, out))
   reason_in (NoStep i) = (λ (s, is). ((stops_in i).0 s, is), λ (s, is). ((stops_in i).1 s, is))
@@ -192,20 +191,16 @@ module _ {b : List ℕ} {d : PairSet} (image : ImageOf b d) (xs : List ℕ) wher
 found_exactly : (b xs : List ℕ) → (reason_of b xs ≡ IsFound) ↔ ((v : ℕ) × (value_within b xs ≡ Some v))
 found_exactly b xs = (λ e. rw e at (reason_true b xs), only_reason b xs IsFound)
 
-no_reason_found : NoReason ≡ IsFound → ⊥
-unfolding reason_number
-no_reason_found e = omega (arith, ap reason_number e)
-
 unless_found : (k : ℕ) (r : Reason) (c : Case) → (r ≡ IsFound) ↔ ((v : ℕ) × (case_value c ≡ Some v))
-    → (unless_refused k r NoReason ≡ IsFound) ↔ ((v : ℕ) × (case_value (unless_refused k c Neither) ≡ Some v))
+    → (unless_refused k (Some r) None ≡ Some IsFound) ↔ ((v : ℕ) × (case_value (unless_refused k c Neither) ≡ Some v))
 unfolding unless_refused case_value
-unless_found zero r c h = h
-unless_found (suc k) r c h = (λ e. absurd (no_reason_found e), λ (v, e). absurd (none_not_some e))
+unless_found zero r c h = (λ e. h.0 (same_Some r IsFound e), λ p. ap {B = Option Reason} Some (h.1 p))
+unless_found (suc k) r c h = (λ e. absurd (none-some IsFound e), λ (v, e). absurd (none_not_some e))
 
 pub why_demand : WhyDemand why_of
 unfolding why_of lookup_of value_within unless_refused
 why_demand = record {
-  refused = λ b q h. rw (stands (search_refusal b q) (reason_of b (labels_of q)) NoReason h);
+  refused = λ b q h. rw (stands (search_refusal b q) (Some (reason_of b (labels_of q))) None h);
   answer = λ b q r passes t. rw (passes, only_reason b (labels_of q) r t);
   some_reason = λ b xs. (reason_of b xs, reason_true b xs);
   one_reason = λ b xs r s t u. sym (only_reason b xs r t) ∙ only_reason b xs s u;

@@ -1,8 +1,7 @@
 -- The slots that walks reach: a prefix's slot is the one that its labels reach, a key's end the one that code 0 reaches from there.
 -- Over accepted bytes no two prefixes reach one slot: its parent and own code determine the last label, and so on back to slot 1.
-use Rattle.std.specs.Prelude.{ℕ, ◌≡◌, refl, ◌⊎◌, List, [], ◌∷◌, ◌++◌, true, Option, Some}
+use Rattle.std.specs.Prelude.{ℕ, ◌≡◌, refl, ◌⊎◌, List, [], ◌∷◌, ◌++◌, true, Option, Some, unwrap_or}
 use Rattle.std.proofs.Common.{arith, sym, ap, ◌∙◌, inl, inr}
-use Rattle.std.proofs.Math.Option.{get_or}
 use Rattle.lxtr_spec.specs.Image.{slot_from, is_leaf, parent, code_of}
 use Rattle.lxtr_spec.specs.Walks.{walk, value_of}
 use Rattle.lxtr_spec.specs.Sets.{Has, Prefix}
@@ -13,7 +12,7 @@ use Rattle.lxtr_laws.specs.StepFacts.{walk_empty, one_code, Stepped, Valued, wal
 use Rattle.lxtr_demands.specs.Laws.Walks.{WalkSlot, reached, root_parent}
 
 unfoldable pub slot_at : List ℕ → List ℕ → ℕ
-slot_at b p = get_or (walk b 1 p) 0
+slot_at b p = unwrap_or (walk b 1 p) 0
 
 unfoldable pub end_at : List ℕ → List ℕ → ℕ
 end_at b k = slot_from b (slot_at b k) 0
