@@ -7,7 +7,7 @@ use Rattle.std.proofs.Common.{arith, ◌∙◌, subst, ⊎_elim, inr, true≢fal
 use Rattle.std.proofs.Math.Decide.{ℕ_discrete}
 use Rattle.std.proofs.Math.Path.{sym, ap}
 use mathlib.Core.List.{List, [], ◌∷◌, ◌++◌, Memᴰ, append-nil}
-use Rattle.lxtr_laws.specs.StepFacts.{none_not_some}
+use Rattle.std.proofs.lemmas.Option.{none-some}
 use Rattle.std.proofs.lemmas.Bool.{false≢true}
 use Rattle.std.proofs.Math.ListN.{drop, get_or}
 use Rattle.std.proofs.Math.Seq.{take-append_seam}
@@ -481,10 +481,10 @@ module _ (o : Operations) (meets : (b : List ℕ) → HighestValue o b) where
       omega (arith, same_value p11 2 v values11.0 is, same_value p11_300 300 v values11_300.0 other)
 
   pub value_of_none_fails : (v : ℕ) → ((b : List ℕ) → IsImage b → (check_of b).pairs ≡ 0 → (o.highest b).value ≡ Some v) → ⊥
-  value_of_none_fails v same = none_not_some (sym values1.0 ∙ sym (value_of_lem p1) ∙ same p1 more_images.0 values1.1)
+  value_of_none_fails v same = none-some v (sym values1.0 ∙ sym (value_of_lem p1) ∙ same p1 more_images.0 values1.1)
 
   pub refused_value_fails : (b : List ℕ) (v : ℕ) → (o.highest b).refusal ≢ 0 → (o.highest b).value ≡ Some v → ⊥
-  refused_value_fails b v refuses e = none_not_some (sym ((meets b).refused refuses) ∙ e)
+  refused_value_fails b v refuses e = none-some v (sym ((meets b).refused refuses) ∙ e)
 
 -- ---- code maps
 
@@ -500,9 +500,9 @@ codes_by_label_fail by_label =
     omega (arith, heads)
 
 -- ---- the place of a fault: P7's is entry 2 of the children, in the list of slot 3, and no other
-fault7 : fault_of p7 ≡ Entry 3 2
+fault7 : fault_of p7 ≡ Some (Entry 3 2)
 unfolding computing
 fault7 = refl
 
-pub only_fault_of_p7 : (f : Fault) → Right p7 f → f ≡ Entry 3 2
+pub only_fault_of_p7 : (f : Option Fault) → Right p7 f → f ≡ Some (Entry 3 2)
 only_fault_of_p7 f right = (fault_right p7).only f right ∙ fault7
