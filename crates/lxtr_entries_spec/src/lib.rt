@@ -6,7 +6,7 @@ ghost use Rattle.std.specs.Prelude.{◌≡◌};
 ghost use Rattle.lxtr_entries_spec.specs.EntryTables.{entry_number};
 ghost use Rattle.lxtr_entries_spec.specs.declared.EntryRefusal.TheVariants.{Image};
 
-use lxtr_spec::refusals::Refusal;
+use lxtr_spec::refusals::{Numbered, Refusal};
 
 // The number of bytes of an entry, and of an offset.
 pub const ENTRY_BYTES: usize = 8;
@@ -32,11 +32,10 @@ pub enum EntryRefusal {
     ValueBeyond,
 }
 
-impl EntryRefusal {
-    // Its number in documents 01 and 02.
-    pub fn number(self) -> u8
-        ensures { result ≡ entry_number self }
-    {
+impl Numbered for EntryRefusal {
+    ghost numbered = { entry_number };
+
+    fn number(self) -> u8 {
         match self {
             EntryRefusal::Image(refusal) => refusal.number(),
             EntryRefusal::TableMalformed => 26,

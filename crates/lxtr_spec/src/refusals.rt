@@ -1,5 +1,5 @@
 // The refusals, each with document 01's number and sentence.
-ghost use Rattle.std.specs.Prelude.{◌≡◌};
+ghost use Rattle.std.specs.Prelude.{◌≡◌, ℕ};
 ghost use Rattle.lxtr_spec.specs.Answers.{number};
 
 #[derive(Clone, Copy, Debug, PartialEq, Eq)]
@@ -33,11 +33,18 @@ pub enum Refusal {
     OutTooSmall = 23, // output shorter than the image
 }
 
-impl Refusal {
-    // Its number.
-    pub fn number(self) -> u8
-        ensures { result ≡ number self }
-    {
+// An error that documents 01 and 02 number.
+pub trait Numbered {
+    ghost numbered: { Self → ℕ };
+
+    fn number(self) -> u8
+        ensures { result ≡ numbered self };
+}
+
+impl Numbered for Refusal {
+    ghost numbered = { number };
+
+    fn number(self) -> u8 {
         self as u8
     }
 }

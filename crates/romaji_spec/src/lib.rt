@@ -7,7 +7,7 @@ ghost use Rattle.romaji_spec.specs.Typing.{typing_number};
 ghost use Rattle.romaji_spec.specs.declared.TypingRefusal.TheVariants.{Image};
 
 use lxtr_spec::MAX_LABELS;
-use lxtr_spec::refusals::Refusal;
+use lxtr_spec::refusals::{Numbered, Refusal};
 
 // What is kept back is a proper front part of a key, so it has at least one label less than a key may have.
 pub const MAX_KEPT: usize = MAX_LABELS - 1;
@@ -32,11 +32,10 @@ pub enum TypingRefusal {
     NoRoom,
 }
 
-impl TypingRefusal {
-    // Its number in documents 01 and 02.
-    pub fn number(self) -> u8
-        ensures { result ≡ typing_number self }
-    {
+impl Numbered for TypingRefusal {
+    ghost numbered = { typing_number };
+
+    fn number(self) -> u8 {
         match self {
             TypingRefusal::Image(refusal) => refusal.number(),
             TypingRefusal::TableTooShort => 24,
