@@ -1,9 +1,12 @@
 // The 64-bit number that an operation returns to a host program.
-ghost use Rattle.std.specs.Prelude.{◌≡◌};
-ghost use Rattle.lxtr_spec.specs.HostNumbers.{host_number, value_numbered, place_number, fault_numbered, reason_numbered};
+ghost use Rattle.std.specs.Prelude.{◌≡◌, Option, None, false};
+ghost use Rattle.lxtr_spec.specs.Answers.{refusal_of, number_by, answer_or};
+ghost use Rattle.lxtr_spec.specs.HostNumbers.{host_number, value_numbered, probe_numbered, place_number, fault_numbered, reason_numbered};
+ghost use Rattle.lxtr_spec.specs.declared.Case.TheVariants.{Neither};
+ghost use Rattle.lxtr_host.specs.Numbering.{given};
 
-use lxtr_spec::refusals::{UNREACHABLE, WRONG_LABELS, WRONG_LISTS, WRONG_SLOTS};
-use lxtr_spec::{Fault, Reason};
+use lxtr_spec::refusals::{Numbered, Refusal};
+use lxtr_spec::{Case, Fault, Reason};
 
 // The parts of a number: REFUSAL times the refusal, MORE and VALUE for the two marks, and KIND times the kind of a fault or the number
 // of a reason.
@@ -22,13 +25,48 @@ pub fn host_number(refusal: u8, more: bool, valued: bool, n: u32) -> u64
     refusal as u64 * REFUSAL + more as u64 * MORE + valued as u64 * VALUE + n as u64
 }
 
-// The number of an answer with a value, or with none.
-pub fn value_numbered(refusal: u8, more: bool, value: Option<u32>) -> u64
+// The number of a count or a length, or of the refusal.
+pub fn count_numbered<E: Numbered>(answer: Result<u32, E>) -> u64
+    ensures { result ≡ host_number (number_by E.numbered answer) false false (answer_or 0 answer) }
+{
+    match answer {
+        Ok(n) => host_number(0, false, false, n),
+        Err(refusal) => host_number(refusal.number(), false, false, 0),
+    }
+}
+
+// The number of a value or none, with the mark for longer keys.
+#[tactic(auto, unfolding(lxtr_spec::specs::HostNumbers::value_numbered))]
+fn value_numbered(refusal: u8, more: bool, value: Option<u32>) -> u64
     ensures { result ≡ value_numbered refusal more value }
 {
     match value {
         Some(v) => host_number(refusal, more, true, v),
         None => host_number(refusal, more, false, 0),
+    }
+}
+
+// The number of an answer with a value, or with none.
+pub fn found_numbered(answer: Result<Option<u32>, Refusal>) -> u64
+    ensures { result ≡ value_numbered (refusal_of answer) false (answer_or None answer) }
+{
+    match answer {
+        Ok(value) => value_numbered(0, false, value),
+        Err(refusal) => value_numbered(refusal.number(), false, None),
+    }
+}
+
+// The number of a lookup's answer.
+#[tactic(auto, unfolding(lxtr_spec::specs::HostNumbers::probe_numbered, lxtr_spec::specs::Searches::case_value, lxtr_spec::specs::Searches::case_longer))]
+pub fn case_numbered(answer: Result<Case, Refusal>) -> u64
+    ensures { result ≡ probe_numbered (record { refusal = refusal_of answer; case = answer_or Neither answer }) }
+{
+    match answer {
+        Err(refusal) => value_numbered(refusal.number(), false, None),
+        Ok(Case::Neither) => value_numbered(0, false, None),
+        Ok(Case::PrefixOnly) => value_numbered(0, true, None),
+        Ok(Case::ExactOnly(v)) => value_numbered(0, false, Some(v)),
+        Ok(Case::ExactAndPrefix(v)) => value_numbered(0, true, Some(v)),
     }
 }
 
@@ -40,32 +78,34 @@ fn place_number(refusal: u8, kind: u8, place: u32) -> u64
 }
 
 // The number for where a fault lies.
-pub fn fault_numbered(fault: Fault) -> u64
+#[tactic(auto, unfolding(lxtr_spec::specs::HostNumbers::fault_numbered))]
+pub fn fault_numbered(fault: Option<Fault>) -> u64
     ensures { result ≡ fault_numbered fault }
 {
     match fault {
-        Fault::Nowhere => 0,
-        Fault::Label(i) => place_number(WRONG_LABELS, 0, i),
-        Fault::Slot(s) => place_number(WRONG_SLOTS, 0, s),
-        Fault::Offset(p) => place_number(WRONG_LISTS, 1, p),
-        Fault::Entry(_, j) => place_number(WRONG_LISTS, 2, j),
-        Fault::Unlisted(s) => place_number(WRONG_LISTS, 3, s),
-        Fault::Childless(s) => place_number(WRONG_LISTS, 4, s),
-        Fault::RootBase => place_number(WRONG_LISTS, 5, 1),
-        Fault::Unreachable(s) => place_number(UNREACHABLE, 0, s),
+        None => 0,
+        Some(Fault::Label(i)) => place_number(Refusal::WrongLabels.number(), 0, i),
+        Some(Fault::Slot(s)) => place_number(Refusal::WrongSlots.number(), 0, s),
+        Some(Fault::Offset(p)) => place_number(Refusal::WrongLists.number(), 1, p),
+        Some(Fault::Entry(_, j)) => place_number(Refusal::WrongLists.number(), 2, j),
+        Some(Fault::Unlisted(s)) => place_number(Refusal::WrongLists.number(), 3, s),
+        Some(Fault::Childless(s)) => place_number(Refusal::WrongLists.number(), 4, s),
+        Some(Fault::RootBase) => place_number(Refusal::WrongLists.number(), 5, 1),
+        Some(Fault::Unreachable(s)) => place_number(Refusal::Unreachable.number(), 0, s),
     }
 }
 
 // The number for why a query is found or not.
-pub fn reason_numbered(refusal: u8, reason: Reason) -> u64
-    ensures { result ≡ reason_numbered refusal reason }
+#[tactic(auto, unfolding(lxtr_spec::specs::HostNumbers::reason_numbered, lxtr_spec::specs::Reasons::reason_number, lxtr_spec::specs::Reasons::reason_place))]
+pub fn reason_numbered(answer: Result<Reason, Refusal>) -> u64
+    ensures { result ≡ reason_numbered (refusal_of answer) (given answer) }
 {
-    match reason {
-        Reason::NoReason => place_number(refusal, 0, 0),
-        Reason::IsFound => place_number(refusal, 1, 0),
-        Reason::NotListed(i) => place_number(refusal, 2, i),
-        Reason::NoStep(i) => place_number(refusal, 3, i),
-        Reason::NoKeyEnds => place_number(refusal, 4, 0),
-        Reason::TooLong => place_number(refusal, 5, 0),
+    match answer {
+        Err(refusal) => place_number(refusal.number(), 0, 0),
+        Ok(Reason::IsFound) => place_number(0, 1, 0),
+        Ok(Reason::NotListed(i)) => place_number(0, 2, i),
+        Ok(Reason::NoStep(i)) => place_number(0, 3, i),
+        Ok(Reason::NoKeyEnds) => place_number(0, 4, 0),
+        Ok(Reason::TooLong) => place_number(0, 5, 0),
     }
 }

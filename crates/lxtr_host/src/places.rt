@@ -2,7 +2,6 @@
 ghost use Rattle.std.specs.Prelude.{◌≡◌, [], ◌∷◌};
 ghost use Rattle.lxtr_spec.specs.HostNumbers.{alternately, at_front};
 
-use lxtr_bytes::numbers::lesser;
 use lxtr_spec::LENGTH_COUNT;
 
 // The number of words for all lengths and values.
@@ -16,7 +15,7 @@ pub fn put_places<'a>(
 )
     ensures { places.new ≡ at_front (alternately lengths.now values.now) places.old }
 {
-    let count = lesser(WORD_COUNT, places.len());
+    let count = WORD_COUNT.min(places.len());
     let pairs = count / 2;
     let mut i = 0;
     while i < pairs {
