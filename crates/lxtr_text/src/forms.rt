@@ -1,73 +1,72 @@
 // Forms: text in which the marks %, $ and @ stand for numbers.
-ghost use Rattle.std.specs.Prelude.{◌≡◌, ◌≤◌, length};
+ghost use Rattle.std.specs.Prelude.{◌≡◌};
 ghost use Rattle.lxtr_command_spec.specs.Forms.{next_number, piece, takes, filled};
 ghost use Rattle.lxtr_text.specs.Appends.{Appended};
-ghost use Rattle.lxtr_text.specs.FormLoops.{next_place};
+ghost use Rattle.lxtr_text.specs.Writing.{wrote};
+ghost use Rattle.lxtr_text.specs.Filling.{left_after};
 
-use crate::appending::append_byte;
-use crate::characters::append_quoted;
-use crate::numerals::{append_decimal, append_hexadecimal};
+use crate::line::Line;
 
 // The next number, or 0 if none is left.
+#[tactic(auto, unfolding(lxtr_command_spec::specs::Forms::next_number))]
 fn next_number(numbers: &[u32]) -> u32
     ensures { result ≡ next_number numbers.now }
 {
-    if numbers.len() == 0 {
-        return 0;
-    }
-    numbers[0]
-}
-
-// Appends what a byte of a form stands for, where `numbers` are left: % is a decimal number, $ a hexadecimal one, @ a label as
-// text for use within quotation marks; any other byte is itself.
-fn append_piece(line: &mut [u8], at: usize, mark: u8, numbers: &[u32]) -> usize
-    requires { at ≤ length line.old }
-    ensures { Appended line.old at (piece mark numbers.now) line.new result }
-{
-    if mark == b'%' {
-        return append_decimal(line, at, next_number(numbers));
-    }
-    if mark == b'$' {
-        return append_hexadecimal(line, at, next_number(numbers));
-    }
-    if mark == b'@' {
-        return append_quoted(line, at, next_number(numbers));
-    }
-    append_byte(line, at, mark)
+    numbers.first().copied().unwrap_or(0)
 }
 
 // Whether a byte of a form takes a number.
+#[tactic(auto, unfolding(lxtr_command_spec::specs::Forms::takes))]
 fn takes(mark: u8) -> bool
     ensures { result ≡ takes mark }
 {
-    (mark == b'%') | (mark == b'$') | (mark == b'@')
+    matches!(mark, b'%' | b'$' | b'@')
 }
 
-// The place of the next number after a byte of a form; there are `count` numbers.
-fn next_place(mark: u8, next: usize, count: usize) -> usize
-    ensures { result ≡ next_place mark next count }
+// The numbers that are left after a byte of a form.
+#[tactic(auto, using(crate::specs::Filling::none_left))]
+fn left_after<'n>(mark: u8, numbers: &'n [u32]) -> &'n [u32]
+    ensures { result.now ≡ left_after mark numbers.now }
 {
-    if count <= next {
-        return next;
-    }
     if takes(mark) {
-        return next + 1;
+        return numbers.get(1..).unwrap_or(&[]);
     }
-    next
+    numbers
 }
 
-// Writes the text of a form to the front of the line. Returns its length.
+impl<'a> Line<'a> {
+    // Writes what a byte of a form stands for, where `numbers` are left: % is a decimal number, $ a hexadecimal one, @ a label as
+    // text for use within quotation marks; any other byte is itself.
+    #[tactic(auto, unfolding(lxtr_command_spec::specs::Forms::piece))]
+    fn piece(&mut self, mark: u8, numbers: &[u32])
+        ensures { self.new ≡ wrote self.old (piece mark numbers.now) }
+    {
+        match mark {
+            b'%' => self.decimal(next_number(numbers)),
+            b'$' => self.hexadecimal(next_number(numbers)),
+            b'@' => self.quoted(next_number(numbers)),
+            _ => self.push(mark),
+        }
+    }
+
+    // Writes the text of a form.
+    pub fn fill(&mut self, form: &[u8], numbers: &[u32])
+        ensures { self.new ≡ wrote self.old (filled form.now numbers.now) }
+    {
+        let mut left = numbers;
+        for mark in form {
+            self.piece(*mark, left);
+            left = left_after(*mark, left);
+        }
+    }
+}
+
+// Writes the text of a form to the front of lent bytes. Returns its length.
+#[tactic(auto, using(crate::specs::Writing::line_filled))]
 pub fn fill(form: &[u8], numbers: &[u32], line: &mut [u8]) -> usize
     ensures { Appended line.old 0 (filled form.now numbers.now) line.new result }
 {
-    let mut end: usize = 0;
-    let mut next: usize = 0;
-    let mut i: usize = 0;
-    while i < form.len() {
-        let mark = form[i];
-        end = append_piece(line, end, mark, &numbers[next..]);
-        next = next_place(mark, next, numbers.len());
-        i += 1;
-    }
-    end
+    let mut written = Line::new(line);
+    written.fill(form, numbers);
+    written.len()
 }

@@ -1,10 +1,10 @@
-// Appends a number in decimal or hexadecimal digits, and a byte in two digits.
-ghost use Rattle.std.specs.Prelude.{◌≡◌, ◌≤◌, ◌<◌, length};
+// Numbers in decimal or hexadecimal digits, and bytes in two digits.
+ghost use Rattle.std.specs.Prelude.{◌≡◌, ◌≤◌, ◌<◌};
 ghost use Rattle.lxtr_spec.specs.Lines.{digit_of, numeral, decimal, hexadecimal};
 ghost use Rattle.lxtr_command_spec.specs.Forms.{two_digits};
-ghost use Rattle.lxtr_text.specs.Appends.{Appended};
+ghost use Rattle.lxtr_text.specs.Writing.{wrote};
 
-use crate::appending::append_byte;
+use crate::line::Line;
 
 // The most digits that a 32-bit number has, in decimal and in hexadecimal.
 const DECIMAL_DIGITS: usize = 10;
@@ -22,41 +22,44 @@ fn digit_of(d: u32) -> u8
     0x37 + d as u8
 }
 
-// Appends n in a base, or only its last `digits` digits if it has more.
-fn append_numeral(line: &mut [u8], at: usize, base: u32, digits: usize, n: u32) -> usize
-    requires le_base { (2 ≤ base) × (base ≤ 16) }
-    requires at_in_bounds { at ≤ length line.old }
-    ensures { Appended line.old at (numeral base digits n) line.new result }
-{
-    if digits == 0 {
-        return at;
+impl<'a> Line<'a> {
+    // Writes n in a base, or only its last `digits` digits if it has more.
+    #[tactic(auto, unfolding(lxtr_spec::specs::Lines::numeral), using(crate::specs::Writing::wrote_wrote, crate::specs::Writing::wrote_none))]
+    fn numeral(&mut self, base: u32, digits: usize, n: u32)
+        requires { (2 ≤ base) × (base ≤ 16) }
+        ensures { self.new ≡ wrote self.old (numeral base digits n) }
+    {
+        if digits == 0 {
+            return;
+        }
+        if n < base {
+            self.push(digit_of(n));
+            return;
+        }
+        self.numeral(base, digits - 1, n / base);
+        self.push(digit_of(n % base));
     }
-    if n < base {
-        return append_byte(line, at, digit_of(n));
+
+    #[tactic(auto, unfolding(lxtr_spec::specs::Lines::decimal))]
+    pub fn decimal(&mut self, n: u32)
+        ensures { self.new ≡ wrote self.old (decimal n) }
+    {
+        self.numeral(10, DECIMAL_DIGITS, n);
     }
-    let end = append_numeral(line, at, base, digits - 1, n / base);
-    append_byte(line, end, digit_of(n % base))
-}
 
-pub fn append_decimal(line: &mut [u8], at: usize, n: u32) -> usize
-    requires { at ≤ length line.old }
-    ensures { Appended line.old at (decimal n) line.new result }
-{
-    append_numeral(line, at, 10, DECIMAL_DIGITS, n)
-}
+    #[tactic(auto, unfolding(lxtr_spec::specs::Lines::hexadecimal))]
+    pub fn hexadecimal(&mut self, n: u32)
+        ensures { self.new ≡ wrote self.old (hexadecimal n) }
+    {
+        self.numeral(16, HEXADECIMAL_DIGITS, n);
+    }
 
-pub fn append_hexadecimal(line: &mut [u8], at: usize, n: u32) -> usize
-    requires { at ≤ length line.old }
-    ensures { Appended line.old at (hexadecimal n) line.new result }
-{
-    append_numeral(line, at, 16, HEXADECIMAL_DIGITS, n)
-}
-
-// Appends a byte in two hexadecimal digits.
-pub fn append_two_digits(line: &mut [u8], at: usize, x: u8) -> usize
-    requires { at ≤ length line.old }
-    ensures { Appended line.old at (two_digits x) line.new result }
-{
-    let next = append_byte(line, at, digit_of(x as u32 / 16));
-    append_byte(line, next, digit_of(x as u32 % 16))
+    // Writes a byte in two hexadecimal digits.
+    #[tactic(auto, unfolding(lxtr_command_spec::specs::Forms::two_digits), using(crate::specs::Writing::wrote_wrote))]
+    pub fn two_digits(&mut self, x: u8)
+        ensures { self.new ≡ wrote self.old (two_digits x) }
+    {
+        self.push(digit_of(x as u32 / 16));
+        self.push(digit_of(x as u32 % 16));
+    }
 }
