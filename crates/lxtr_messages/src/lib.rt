@@ -4,117 +4,68 @@
 
 mod refusals; // the sentence of each refusal, and of each place at fault
 
-use lxtr_lines::keys::append_text;
 use lxtr_output::{print, text_at};
-use lxtr_text::LINE_ROOM;
-use lxtr_text::forms::fill;
-pub use refusals::{fault_number, has_place, print_fault, print_refusal, refuse, refuse_at};
+use lxtr_text::{LINE_ROOM, Line};
+pub use refusals::{print_fault, print_refusal, refuse, refuse_at};
 
-// The places of the sentences in `tell`. Those up to FAILED are last lines, each one word that scripts can test.
-pub const ACCEPTED: u8 = 0;
+// The sentences, in the order of their texts in `tell`. Those up to `Failed` are last lines, each one word that scripts can test.
+#[derive(Clone, Copy, Debug, PartialEq, Eq)]
+pub enum Sentence {
+    Accepted,
+    Refused,
+    Found,
+    Absent,
+    Listed,
+    Stopped,
+    Written,
+    Help,
+    Typed,
+    Failed,
+    Pairs,
+    Value,
+    NoValue,
+    LongQuery,
+    AbsentInRefused,
+    OnlyLonger,
+    NoKey,
+    Longer,
+    NoLonger,
+    MoreKeys,
+    Bytes,
+    Keys,
+    LineNotUtf8,
+    LongWordLine,
+    TooManyWords,
+    LargeList,
+    LongArgument,
+    ArgumentNotUtf8,
+    NoCommand,
+    OtherOperands,
+    LargeFile,
+    Out,
+    NothingOut,
+    Waits,
+    NothingWaits,
+    FinishOut,
+    NothingAtFinish,
+    Place,
+    HasWord,
+    NoWordWith,
+    NoWordBegins,
+    WordsBegin,
+    NoneWith,
+    OnlyLongerWords,
+    EmptyText,
+    FoundInRefused,
+    NotListed,
+    NoStep,
+    FromRoot,
+    After,
+    NoKeyEnds,
+}
 
-pub const REFUSED: u8 = 1;
-
-pub const FOUND: u8 = 2;
-
-pub const ABSENT: u8 = 3;
-
-pub const LISTED: u8 = 4;
-
-pub const STOPPED: u8 = 5;
-
-pub const WRITTEN: u8 = 6;
-
-pub const HELP: u8 = 7;
-
-pub const TYPED: u8 = 8;
-
-pub const FAILED: u8 = 9;
-
-pub const PAIRS: u8 = 10;
-
-pub const VALUE: u8 = 11;
-
-pub const NO_VALUE: u8 = 12;
-
-pub const LONG_QUERY: u8 = 13;
-
-pub const ABSENT_IN_REFUSED: u8 = 14;
-
-pub const ONLY_LONGER: u8 = 15;
-
-pub const NO_KEY: u8 = 16;
-
-pub const LONGER: u8 = 17;
-
-pub const NO_LONGER: u8 = 18;
-
-pub const MORE_KEYS: u8 = 19;
-
-pub const BYTES: u8 = 20;
-
-pub const KEYS: u8 = 21;
-
-pub const LINE_NOT_UTF8: u8 = 22;
-
-pub const LONG_WORD_LINE: u8 = 23;
-
-pub const TOO_MANY_WORDS: u8 = 24;
-
-pub const LARGE_LIST: u8 = 25;
-
-pub const LONG_ARGUMENT: u8 = 26;
-
-pub const ARGUMENT_NOT_UTF8: u8 = 27;
-
-pub const NO_COMMAND: u8 = 28;
-
-pub const OTHER_OPERANDS: u8 = 29;
-
-pub const LARGE_FILE: u8 = 30;
-
-pub const OUT: u8 = 31;
-
-pub const NOTHING_OUT: u8 = 32;
-
-pub const WAITS: u8 = 33;
-
-pub const NOTHING_WAITS: u8 = 34;
-
-pub const FINISH_OUT: u8 = 35;
-
-pub const NOTHING_AT_FINISH: u8 = 36;
-
-pub const PLACE: u8 = 37;
-
-pub const HAS_WORD: u8 = 38;
-
-pub const NO_WORD_WITH: u8 = 39;
-
-pub const NO_WORD_BEGINS: u8 = 40;
-
-pub const WORDS_BEGIN: u8 = 41;
-
-pub const NONE_WITH: u8 = 42;
-
-pub const ONLY_LONGER_WORDS: u8 = 43;
-
-pub const EMPTY_TEXT: u8 = 44;
-
-pub const FOUND_IN_REFUSED: u8 = 45;
-
-pub const NOT_LISTED: u8 = 46;
-
-pub const NO_STEP: u8 = 47;
-
-pub const FROM_ROOT: u8 = 48;
-
-pub const AFTER: u8 = 49;
-
-pub const NO_KEY_ENDS: u8 = 50;
-
-// Prints a sentence. The marks in it stand for the two numbers.
-pub fn tell(sentence: u8, first: u32, second: u32) {
+// Prints a sentence. The marks in it stand for the numbers.
+pub fn tell(sentence: Sentence, numbers: &[u32]) {
     print_form(
         text_at(
             b"accepted\n|\
@@ -168,22 +119,22 @@ pub fn tell(sentence: u8, first: u32, second: u32) {
               \x20from slot 1|\
               \x20after |\
               all labels are walked, but no key ends there\n|",
-            sentence,
+            sentence as u8,
         ),
-        first,
-        second,
+        numbers,
     );
 }
 
-pub fn say(sentence: u8) {
-    tell(sentence, 0, 0);
+pub fn say(sentence: Sentence) {
+    tell(sentence, &[]);
 }
 
 // Prints the labels that a sentence names, as text. There are at most as many as fit a line.
 pub fn print_text(labels: &[u8]) {
-    let mut line = [0u8; LINE_ROOM];
-    let length = append_text(&mut line, 0, labels);
-    print(&line[..length]);
+    let mut room = [0u8; LINE_ROOM];
+    let mut line = Line::new(&mut room);
+    line.text(labels);
+    print(line.as_slice());
 }
 
 // Prints a last line that is none of these.
@@ -193,18 +144,16 @@ pub fn end(word: &[u8]) {
 }
 
 // Prints a form with its numbers.
-fn print_form(form: &[u8], first: u32, second: u32) {
-    let mut line = [0u8; LINE_ROOM];
-    let length = fill(form, &[first, second], &mut line);
-    print(&line[..length]);
+fn print_form(form: &[u8], numbers: &[u32]) {
+    let mut room = [0u8; LINE_ROOM];
+    let mut line = Line::new(&mut room);
+    line.fill(form, numbers);
+    print(line.as_slice());
 }
 
 // A count as a number for a sentence. No count that occurs has more than 32 bits.
 pub fn printed(n: usize) -> u32 {
-    if 0xFFFFFFFF < n {
-        return 0xFFFFFFFF;
-    }
-    n as u32
+    u32::try_from(n).unwrap_or(u32::MAX)
 }
 
 pub fn print_usage() {

@@ -1,25 +1,31 @@
 // The sentences of refusals, each at the place of its number in documents 01 and 02; and the sentences for places at fault.
-use crate::{REFUSED, print_form, printed, say};
+use crate::{Sentence, print_form, printed, say};
 use lxtr_output::{print, text_at};
-use lxtr_spec::refusals::{
-    KEY_TOO_LONG, TOO_FEW_SLOTS, TOO_MANY_KEYS, TOO_MANY_LABELS, UNREACHABLE, WRONG_LABELS,
-};
+use lxtr_spec::refusals::{Numbered, Refusal};
 use lxtr_spec::{Fault, LENGTH_COUNT, MAX_KEYS, MAX_LABELS, MAX_LISTED, MAX_SLOTS};
 
+// The limits that sentences of refusals name.
+const LIMITS: [(Refusal, usize); 5] = [
+    (Refusal::Unreachable, LENGTH_COUNT),
+    (Refusal::TooManyKeys, MAX_KEYS),
+    (Refusal::KeyTooLong, MAX_LABELS),
+    (Refusal::TooManyLabels, MAX_LISTED),
+    (Refusal::TooFewSlots, MAX_SLOTS),
+];
+
 // The limit that the sentence of a refusal names; 0 if it names none.
-fn limit_of(refusal: u8) -> u32 {
-    match refusal {
-        UNREACHABLE => printed(LENGTH_COUNT),
-        TOO_MANY_KEYS => printed(MAX_KEYS),
-        KEY_TOO_LONG => printed(MAX_LABELS),
-        TOO_MANY_LABELS => printed(MAX_LISTED),
-        TOO_FEW_SLOTS => printed(MAX_SLOTS),
-        _ => 0,
+fn limit_of(number: u8) -> u32 {
+    for (refusal, limit) in LIMITS {
+        if refusal.number() == number {
+            return printed(limit);
+        }
     }
+    0
 }
 
 // Prints the sentence of a refusal, without ending the line. No operation gives 0 or 26 to 28, so their texts are empty.
-pub fn print_refusal(refusal: u8) {
+pub fn print_refusal<E: Numbered>(refusal: E) {
+    let number = refusal.number();
     print_form(
         text_at(
             b"|\
@@ -52,61 +58,32 @@ pub fn print_refusal(refusal: u8) {
               |\
               |\
               refusal 29: there is no room for what goes out|",
-            refusal,
+            number,
         ),
-        limit_of(refusal),
-        0,
+        &[limit_of(number)],
     );
 }
 
-// Whether the fault of a refusal has a place: 9 to 12.
-pub fn has_place(refusal: u8) -> bool {
-    (WRONG_LABELS <= refusal) & (refusal <= UNREACHABLE)
-}
-
-// The place of the fault's sentence in `print_fault`.
-fn fault_case(fault: Fault) -> u8 {
+// The place of the fault's sentence in `print_fault`, and the numbers that it names.
+fn fault_sentence(fault: Fault) -> (u8, [u32; 2]) {
     match fault {
-        Fault::Nowhere => 0,
-        Fault::Label(place) => 1,
-        Fault::Slot(s) => 2,
-        Fault::Offset(p) => 3,
-        Fault::Entry(p, j) => 4,
-        Fault::Unlisted(s) => 5,
-        Fault::Childless(s) => 6,
-        Fault::RootBase => 7,
-        Fault::Unreachable(s) => 8,
+        Fault::Label(place) => (0, [place, 0]),
+        Fault::Slot(s) => (1, [s, 0]),
+        Fault::Offset(p) => (2, [p, 0]),
+        Fault::Entry(p, j) => (3, [j, p]),
+        Fault::Unlisted(s) => (4, [s, 0]),
+        Fault::Childless(s) => (5, [s, 0]),
+        Fault::RootBase => (6, [1, 0]),
+        Fault::Unreachable(s) => (7, [s, 0]),
     }
 }
 
-// The number that the sentence names first; below it, the one that it names second.
-pub fn fault_number(fault: Fault) -> u32 {
-    match fault {
-        Fault::Nowhere => 0,
-        Fault::Label(place) => place,
-        Fault::Slot(s) => s,
-        Fault::Offset(p) => p,
-        Fault::Entry(p, j) => j,
-        Fault::Unlisted(s) => s,
-        Fault::Childless(s) => s,
-        Fault::RootBase => 1,
-        Fault::Unreachable(s) => s,
-    }
-}
-
-fn fault_list(fault: Fault) -> u32 {
-    match fault {
-        Fault::Entry(p, j) => p,
-        _ => 0,
-    }
-}
-
-// Prints where the fault lies, without ending the line; nothing if it lies nowhere.
+// Prints where the fault lies, without ending the line.
 pub fn print_fault(fault: Fault) {
+    let (place, numbers) = fault_sentence(fault);
     print_form(
         text_at(
-            b"|\
-              place % of the code map|\
+            b"place % of the code map|\
               slot %|\
               the list of slot % ends before it begins|\
               entry % of the children, in the list of slot %|\
@@ -114,27 +91,24 @@ pub fn print_fault(fault: Fault) {
               slot % is not an end and has an empty list|\
               slot % has an empty list, but its base is not 0|\
               slot %|",
-            fault_case(fault),
+            place,
         ),
-        fault_number(fault),
-        fault_list(fault),
+        &numbers,
     );
 }
 
 // Prints a refusal, and the last line.
-pub fn refuse(refusal: u8) {
-    print_refusal(refusal);
-    print(b"\n");
-    say(REFUSED);
+pub fn refuse<E: Numbered>(refusal: E) {
+    refuse_at(refusal, None);
 }
 
 // The same, with a line for where the fault of an image lies.
-pub fn refuse_at(refusal: u8, fault: Fault) {
+pub fn refuse_at<E: Numbered>(refusal: E, fault: Option<Fault>) {
     print_refusal(refusal);
     print(b"\n");
-    if has_place(refusal) {
-        print_fault(fault);
+    if let Some(place) = fault {
+        print_fault(place);
         print(b"\n");
     }
-    say(REFUSED);
+    say(Sentence::Refused);
 }
