@@ -1,14 +1,14 @@
 // Reads whole files into lent room, and writes whole files. System errors are reported on standard error, with the reason.
 #![tactic(auto)]
 
-ghost use Rattle.std.specs.Prelude.{◌≤◌, length, IfOk};
+ghost use Rattle.std.specs.Prelude.{◌≤◌, length, IfOk, IfSome};
 
 use lxtr_bytes::heads::HEAD_LENGTH;
-use lxtr_lines::joined;
-use lxtr_messages::{FAILED, LARGE_FILE, REFUSED, printed, say, tell};
+use lxtr_messages::{Sentence, printed, say, tell};
 use lxtr_output::STANDARD_ERROR;
 use lxtr_output::parts::{find, front};
 use lxtr_spec::{MAX_LISTED, MAX_SLOTS};
+use lxtr_text::Line;
 use std::env::{Env, FillError};
 use std::fs;
 use std::fs::File;
@@ -55,38 +55,21 @@ fn fail(rt: &HostRuntime, what: &[u8], error: Error) {
     io::write_all(STANDARD_ERROR, b": ");
     print_reason(rt, error);
     io::write_all(STANDARD_ERROR, b"\n");
-    say(FAILED);
+    say(Sentence::Failed);
 }
 
-// Reads a file to its end. Returns how many bytes were read, and sets `is_whole` if they are the whole file. Otherwise it reports
-// why not: the file is too large or cannot be read.
-fn read_all(
-    rt: &HostRuntime,
-    file: &mut File,
-    path: &[u8],
-    room: &mut [u8; FILE_ROOM],
-    is_whole: &mut bool,
-) -> usize
-    ensures { result ≤ length room.new }
+// Reads a file to its end. Answers how many bytes it has, or none if it is larger than the room.
+fn read_all(file: &mut File, room: &mut [u8; FILE_ROOM]) -> Result<Option<usize>, Error>
+    ensures { IfOk result (λ read. IfSome read (λ n. n ≤ length room.new)) }
 {
-    *is_whole = false;
     let mut size: usize = 0;
     while size < FILE_ROOM {
-        match file.read(&mut room[size..]) {
-            Ok(0) => {
-                *is_whole = true;
-                return size;
-            }
-            Ok(count) => size += count,
-            Err(error) => {
-                fail(rt, path, error);
-                return size;
-            }
+        match file.read(&mut room[size..])? {
+            0 => return Ok(Some(size)),
+            count => size += count,
         }
     }
-    tell(LARGE_FILE, printed(LARGEST_FILE), 0);
-    say(REFUSED);
-    size
+    Ok(None)
 }
 
 // The bytes of an argument, put at the front of `path`; a missing one is an error.
@@ -108,46 +91,42 @@ fn as_text<'a>(path: &'a [u8]) -> Result<&'a str, Error> {
     }
 }
 
-// Opens a file for reading.
-fn open(rt: &HostRuntime, path: &[u8]) -> Result<File, Error> {
-    File::open(rt, as_text(path)?)
-}
-
-// Reads the file of that name. Returns what `read_all` returns.
-fn load_named(
+// Reads the file of that name. Answers what `read_all` answers.
+fn read_named(
     rt: &HostRuntime,
     path: &[u8],
     room: &mut [u8; FILE_ROOM],
-    is_whole: &mut bool,
-) -> usize
-    ensures { result ≤ length room.new }
+) -> Result<Option<usize>, Error>
+    ensures { IfOk result (λ read. IfSome read (λ n. n ≤ length room.new)) }
 {
-    *is_whole = false;
-    match open(rt, path) {
-        Ok(mut file) => read_all(rt, &mut file, path, room, is_whole),
-        Err(error) => {
-            fail(rt, path, error);
-            0
-        }
-    }
+    read_all(&mut File::open(rt, as_text(path)?)?, room)
 }
 
-// Reads the file that an argument names. Returns what `read_all` returns.
-pub fn load(
-    rt: &HostRuntime,
-    argument: usize,
-    room: &mut [u8; FILE_ROOM],
-    is_whole: &mut bool,
-) -> usize
-    ensures { result ≤ length room.new }
+// Reads the file of that name, or reports why not: it is too large or cannot be read.
+fn load_named(rt: &HostRuntime, path: &[u8], room: &mut [u8; FILE_ROOM]) -> Option<usize>
+    ensures { IfSome result (λ n. n ≤ length room.new) }
 {
-    *is_whole = false;
+    match read_named(rt, path, room) {
+        Ok(Some(size)) => return Some(size),
+        Ok(None) => {
+            tell(Sentence::LargeFile, &[printed(LARGEST_FILE)]);
+            say(Sentence::Refused);
+        }
+        Err(error) => fail(rt, path, error),
+    }
+    None
+}
+
+// Reads the file that an argument names. Answers how many bytes it has; if it was not read, that is reported.
+pub fn load(rt: &HostRuntime, argument: usize, room: &mut [u8; FILE_ROOM]) -> Option<usize>
+    ensures { IfSome result (λ n. n ≤ length room.new) }
+{
     let mut path = io::buffer();
     match argument_length(rt, argument, &mut path) {
-        Ok(length) => load_named(rt, &path[..length], room, is_whole),
+        Ok(length) => load_named(rt, &path[..length], room),
         Err(error) => {
             fail(rt, b"file name", error);
-            0
+            None
         }
     }
 }
@@ -158,28 +137,6 @@ fn write_through(file: &mut File, bytes: &[u8]) -> Result<(), Error> {
     file.sync_all()
 }
 
-// Creates a file, and writes it through to the disk. If that fails, reports why and removes the file.
-fn write_new(rt: &HostRuntime, path: &[u8], bytes: &[u8]) -> bool {
-    match create(rt, path) {
-        Ok(mut file) => match write_through(&mut file, bytes) {
-            Ok(()) => true,
-            Err(error) => {
-                fail(rt, path, error);
-                remove(rt, path);
-                false
-            }
-        },
-        Err(error) => {
-            fail(rt, path, error);
-            false
-        }
-    }
-}
-
-fn create(rt: &HostRuntime, path: &[u8]) -> Result<File, Error> {
-    File::create_new(rt, as_text(path)?)
-}
-
 // Removes a file, if that can be done.
 fn remove(rt: &HostRuntime, path: &[u8]) {
     if let Ok(name) = as_text(path) {
@@ -187,25 +144,42 @@ fn remove(rt: &HostRuntime, path: &[u8]) {
     }
 }
 
+// Creates a file, and writes it through to the disk. If the writing fails, the file is removed.
+fn write_new(rt: &HostRuntime, path: &[u8], bytes: &[u8]) -> Result<(), Error> {
+    let mut file = File::create_new(rt, as_text(path)?)?;
+    let written = write_through(&mut file, bytes);
+    if written.is_err() {
+        remove(rt, path);
+    }
+    written
+}
+
 fn rename(rt: &HostRuntime, from: &[u8], to: &[u8]) -> Result<(), Error> {
     fs::rename(rt, as_text(from)?, as_text(to)?)
 }
 
-// Writes the file of that name: to NAME.new, which is then renamed, so that a failure leaves the old file as it was.
-fn replace(rt: &HostRuntime, path: &[u8], bytes: &[u8]) -> bool {
-    let mut name = io::buffer();
-    let length = joined(path, b".new", &mut name);
-    if !write_new(rt, &name[..length], bytes) {
+// Writes the file of the first name, and then gives it the second; so a failure leaves the old file of that name as it was. Reports a
+// failure. Answers whether the file was written.
+fn replace_by(rt: &HostRuntime, new: &[u8], path: &[u8], bytes: &[u8]) -> bool {
+    if let Err(error) = write_new(rt, new, bytes) {
+        fail(rt, new, error);
         return false;
     }
-    match rename(rt, &name[..length], path) {
-        Ok(()) => true,
-        Err(error) => {
-            fail(rt, path, error);
-            remove(rt, &name[..length]);
-            false
-        }
+    if let Err(error) = rename(rt, new, path) {
+        fail(rt, path, error);
+        remove(rt, new);
+        return false;
     }
+    true
+}
+
+// Writes the file of that name, by way of NAME.new.
+fn replace(rt: &HostRuntime, path: &[u8], bytes: &[u8]) -> bool {
+    let mut room = io::buffer();
+    let mut name = Line::new(&mut room);
+    name.push_all(path);
+    name.push_all(b".new");
+    replace_by(rt, name.as_slice(), path, bytes)
 }
 
 // Writes the file that an argument names. Returns whether it was written.
