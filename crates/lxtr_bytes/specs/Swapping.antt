@@ -4,7 +4,7 @@ use Rattle.std.specs.Prelude.{ℕ, ◌+◌, ◌*◌, ◌/◌, ◌%◌, ◌^◌, 
 use Rattle.std.proofs.Common.{sym, ap, ◌∙◌, mod-eq_of_lt, mod-lt, zero-add, arith, lit<, eqb-true, eq-eqb}
 use Rattle.std.proofs.Math.Nat.{add-mul-mod_self_right, add-mul-div_right, div-eq_of_lt}
 use Rattle.std.specs.Int.{swap_bytes, w32}
-use Rattle.std.specs.Prelude.{◌+◌, ◌≤◌, List, length, get_or}
+use Rattle.std.specs.Prelude.{◌+◌, List, get_or}
 use Rattle.lxtr_spec.specs.Numbers.{le32, be32}
 use Rattle.lxtr_laws.specs.Tests.{same_test}
 use Rattle.lxtr_laws.specs.ReadBack.{digits}

@@ -9,7 +9,7 @@ pub mod nodes; // the two words of a slot
 mod lists; // offsets and children
 mod code_map; // the listed labels, and the code of a label
 
-ghost use Rattle.std.specs.Prelude.{◌≡◌, ◌+◌, ◌≤◌};
+ghost use Rattle.std.specs.Prelude.{◌≡◌, ◌+◌, ◌≤◌, ◌<◌};
 ghost use Rattle.lxtr_spec.specs.Labels.{min_slots, max_slots};
 ghost use Rattle.lxtr_spec.specs.Image.{slot_count, child_count};
 ghost use Rattle.lxtr_laws.specs.Passed.{Passed};
@@ -17,6 +17,7 @@ ghost use Rattle.lxtr_laws.specs.Passed.{Passed};
 use std::marker::Model;
 
 // Bytes that passed refusals 1 to 8.
+#[derive(Drop)]
 pub struct Image<'a> {
     bytes: &'a [u8],
 }
@@ -46,6 +47,15 @@ impl<'a> Image<'a> {
         ensures passed { Passed self.now }
     {
         self.bytes
+    }
+
+    // Slot 1, from which each walk starts.
+    pub fn root(&self) -> u32
+        ensures value { result ≡ 1 }
+        ensures below { result < slot_count self.now }
+    {
+        let _ = &self.bytes; // there are at least two slots
+        1
     }
 
     // N: the number of slots.

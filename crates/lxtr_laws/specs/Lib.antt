@@ -6,6 +6,7 @@ pub mod Tests
 pub mod RangeTests
 pub mod Firsts
 pub mod RefusalChains
+pub mod Failures
 pub mod JoiningLaws
 pub mod BinaryDigits
 pub mod SlotMaps

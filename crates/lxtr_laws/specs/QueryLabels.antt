@@ -1,9 +1,9 @@
 -- The labels of a query: how many there are, where the bytes of each are, the labels of a front part, and those of a query that is
 -- written for given labels.
 use Prim.Native.Nat.{ℕ, zero, suc, ◌+◌, ◌*◌, ◌/◌, ◌^◌, ◌<◌, ◌≤◌}
-use Rattle.std.specs.Prelude.{◌≡◌, List, [], length, get_or, take}
+use Rattle.std.specs.Prelude.{◌≡◌, List, [], ◌∷◌, length, get_or, take, drop}
 use Rattle.std.proofs.Math.Path.{refl, sym, ap}
-use Rattle.std.proofs.Common.{◌∙◌, append-nil, not-suc-le-zero, length-take-le, ext_get_or}
+use Rattle.std.proofs.Common.{◌∙◌, append-nil, not-suc-le-zero, length-take-le, length-drop, get_or-drop, ext_get_or}
 use Rattle.std.proofs.Math.Nat.{add-zero, zero-add}
 use native.Mathlib.Omega.{arith}
 use Rattle.std.proofs.Math.Seq.{get_or-take}
@@ -52,6 +52,31 @@ module _ (q : List ℕ) (n : ℕ) (h : 4 * n ≤ length q) where
       (λ i l. sym (label_read (take (4 * n) q) i l (be32 q (4 * i)) (sym (front_read i (omega (arith, front_count)))))
       ∙ label_read q i (omega (arith, front_count, label_count_lem q)) (be32 q (4 * i)) refl
       ∙ sym (get_or-take n (labels_of q) i 0 (omega (arith, front_count))))
+
+-- a query that is read from its front: fewer than four bytes are no label; otherwise there is a first label, and the others are those
+-- of the rest
+module _ (q : List ℕ) where
+  pub labels_none : length q < 4 → labels_of q ≡ []
+  unfolding labels_of labels_from
+  labels_none h = let e : length q / 4 ≡ 0 = omega arith in rw e
+
+  word_after : (i : ℕ) → be32 (drop 4 q) (4 * i) ≡ be32 q (4 * (i + 1))
+  unfolding be32
+  word_after i =
+      let place : (k : ℕ) → get_or (drop 4 q) (4 * i + k) 0 ≡ get_or q (4 * (i + 1) + k) 0 = λ k. let e : 4 + (4 * i + k) ≡ 4 * (i + 1) + k = omega arith in get_or-drop 4 q (4 * i + k) 0 ∙ ap (λ (j : ℕ). get_or q j 0) e in
+      let first : get_or (drop 4 q) (4 * i) 0 ≡ get_or q (4 * (i + 1)) 0 = simp add-zero at (place 0) in
+      rw (first, place 1, place 2, place 3)
+
+  labels_after : (n i : ℕ) → labels_from (drop 4 q) n i ≡ labels_from q n (i + 1)
+  unfolding labels_from
+  labels_after zero i = refl
+  labels_after (suc n) i = rw (word_after i, labels_after n (i + 1))
+
+  pub labels_first : 4 ≤ length q → labels_of q ≡ be32 q 0 ∷ labels_of (drop 4 q)
+  unfolding labels_of labels_from
+  labels_first h =
+      let e : length q / 4 ≡ suc (length (drop 4 q) / 4) = omega (arith, length-drop 4 q) in
+      rw (e, labels_after (length (drop 4 q) / 4) 0)
 
 -- a query written for these labels has these labels
 pub labels_back : (k : List ℕ) → ((i : ℕ) → i < length k → get_or k i 0 < 2 ^ 32) → labels_of (be_words k) ≡ k
