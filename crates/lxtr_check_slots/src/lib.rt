@@ -1,88 +1,84 @@
-// Rule 10: a slot is wrong.
+// Rule 10: a slot is wrong. An image in which none is wrong is `Slots`.
 #![tactic(auto)]
 
-ghost use Rattle.std.specs.Prelude.{◌≡◌, ◌<◌};
-ghost use Rattle.lxtr_spec.specs.Ranges.{first_below};
+ghost use Rattle.std.specs.Prelude.{◌≡◌, ◌<◌, false, MatchResult, Some};
 ghost use Rattle.lxtr_spec.specs.Image.{slot_count};
 ghost use Rattle.lxtr_spec.specs.Refusals.{is_used_from2, is_used, both_zero, used_slot_wrong, end_exists, flag_wrong, slot_wrong, slots_wrong};
-ghost use Rattle.lxtr_laws.specs.Passed.{Whole, Passed};
+ghost use Rattle.lxtr_laws.specs.Passed.{Passed};
+ghost use Rattle.lxtr_laws.specs.FirstPlaces.{first_in};
 
-use lxtr_image::code_map::label_count;
-use lxtr_image::joining::code_to;
-use lxtr_image::nodes::{base_of, base_word, check_word, has_leaf, has_parent, is_leaf, parent_of};
-use lxtr_image::sections::slot_count;
+use lxtr_image::Image;
+use std::marker::Model;
 
-pub fn is_used_from_2(image: &[u8], s: u32) -> bool
-    requires whole { Whole image.now }
-    requires s_bound { s < slot_count image.now }
+#[tactic(auto, unfolding(lxtr_spec::specs::Refusals::is_used_from2))]
+pub fn is_used_from_2(image: &Image, s: u32) -> bool
+    requires { s < slot_count image.now }
     ensures { result ≡ is_used_from2 image.now s }
 {
-    (2 <= s) & (parent_of(image, s) != 0)
+    (2 <= s) & (image.parent(s) != 0)
 }
 
 // Used are slot 1 and every slot from 2 up whose parent is not 0.
-pub fn is_used(image: &[u8], s: u32) -> bool
-    requires whole { Whole image.now }
-    requires s_bound { s < slot_count image.now }
+#[tactic(auto, unfolding(lxtr_spec::specs::Refusals::is_used))]
+pub fn is_used(image: &Image, s: u32) -> bool
+    requires { s < slot_count image.now }
     ensures { result ≡ is_used image.now s }
 {
     (s == 1) | is_used_from_2(image, s)
 }
 
-fn both_zero(image: &[u8], s: u32) -> bool
-    requires whole { Whole image.now }
-    requires s_bound { s < slot_count image.now }
+#[tactic(auto, unfolding(lxtr_spec::specs::Refusals::both_zero))]
+fn both_zero(image: &Image, s: u32) -> bool
+    requires { s < slot_count image.now }
     ensures { result ≡ both_zero image.now s }
 {
-    (base_word(image, s) == 0) & (check_word(image, s) == 0)
+    (image.base_word(s) == 0) & (image.check_word(s) == 0)
 }
 
 // Whether a used slot from 2 up is wrong: it has a parent that isn't below N, is unused or is a leaf, its code is above L, or
 // IS_LEAF differs from "the code is 0".
-fn used_slot_wrong(image: &[u8], s: u32) -> bool
-    requires passed { Passed image.now }
-    requires s_bound { s < slot_count image.now }
+fn used_slot_wrong(image: &Image, s: u32) -> bool
+    requires { s < slot_count image.now }
     ensures { result ≡ used_slot_wrong image.now s }
 {
-    let p = parent_of(image, s);
-    if slot_count(image) <= p {
+    let p = image.parent(s);
+    if image.slot_count() <= p {
         return true;
     }
-    let code = code_to(image, p, s);
+    let code = image.code_to(p, s);
     !is_used(image, p)
-        | is_leaf(image, p)
-        | (label_count(image) < code)
-        | (is_leaf(image, s) != (code == 0))
+        | image.is_leaf(p)
+        | (image.label_count() < code)
+        | (image.is_leaf(s) != (code == 0))
 }
 
 // Whether slot s is "not a leaf, and the slot at its base exists and has it as parent".
-fn end_exists(image: &[u8], s: u32) -> bool
-    requires whole { Whole image.now }
-    requires s_bound { s < slot_count image.now }
+#[tactic(auto, unfolding(lxtr_spec::specs::Refusals::end_exists))]
+fn end_exists(image: &Image, s: u32) -> bool
+    requires { s < slot_count image.now }
     ensures { result ≡ end_exists image.now s }
 {
-    !is_leaf(image, s) & has_parent(image, base_of(image, s), s)
+    !image.is_leaf(s) & image.has_parent(image.base(s), s)
 }
 
-fn flag_wrong(image: &[u8], s: u32) -> bool
-    requires whole { Whole image.now }
-    requires s_bound { s < slot_count image.now }
+#[tactic(auto, unfolding(lxtr_spec::specs::Refusals::flag_wrong))]
+fn flag_wrong(image: &Image, s: u32) -> bool
+    requires { s < slot_count image.now }
     ensures { result ≡ flag_wrong image.now s }
 {
-    has_leaf(image, s) != end_exists(image, s)
+    image.has_leaf(s) != end_exists(image, s)
 }
 
 // The rule depends on the slot: slot 0, slot 1, an unused slot from 2 up, or a used one.
-fn slot_wrong(image: &[u8], s: u32) -> bool
-    requires passed { Passed image.now }
-    requires s_bound { s < slot_count image.now }
+fn slot_wrong(image: &Image, s: u32) -> bool
+    requires { s < slot_count image.now }
     ensures { result ≡ slot_wrong image.now s }
 {
     if s == 0 {
         return !both_zero(image, s);
     }
     if s == 1 {
-        return is_leaf(image, s) | (parent_of(image, s) != 0) | flag_wrong(image, s);
+        return image.is_leaf(s) | (image.parent(s) != 0) | flag_wrong(image, s);
     }
     if !is_used_from_2(image, s) {
         return !both_zero(image, s) | flag_wrong(image, s);
@@ -90,25 +86,48 @@ fn slot_wrong(image: &[u8], s: u32) -> bool
     used_slot_wrong(image, s) | flag_wrong(image, s)
 }
 
-// The first wrong slot, or N if there is none.
-pub fn first_wrong_slot(image: &[u8]) -> u32
-    requires { Passed image.now }
-    ensures { result ≡ first_below (slot_count image.now) (slot_wrong image.now) }
+// The first wrong slot.
+pub fn first_wrong_slot(image: &Image) -> Option<u32>
+    ensures { result ≡ first_in (slot_count image.now) (slot_wrong image.now) }
 {
-    let slots = slot_count(image);
-    let mut s: u32 = 0;
-    while s < slots {
-        if slot_wrong(image, s) {
-            return s;
-        }
-        s += 1;
-    }
-    slots
+    (0..image.slot_count()).find(|&s| slot_wrong(image, s))
 }
 
-pub fn slots_wrong(image: &[u8]) -> bool
-    requires { Passed image.now }
-    ensures { result ≡ slots_wrong image.now }
-{
-    first_wrong_slot(image) < slot_count(image)
+// The bytes of an image in which no slot is wrong.
+pub struct Slots<'a> {
+    bytes: &'a [u8],
+}
+
+impl<'a> Model for Slots<'a> {
+    ghost use Rattle.std.specs.Prelude.{List, ℕ, ◌≡◌, false};
+    ghost use Rattle.lxtr_spec.specs.Refusals.{slots_wrong};
+    ghost use Rattle.lxtr_laws.specs.Passed.{Passed};
+
+    ghost Value = { List ℕ };
+
+    ghost view = { λ a. a.bytes.now };
+
+    ghost invariant = { λ a. Passed a.bytes.now × (slots_wrong a.bytes.now ≡ false) };
+}
+
+impl<'a> Slots<'a> {
+    // The slots, or the first that is wrong.
+    pub fn check(image: &Image<'a>) -> Result<Self, u32>
+        ensures { MatchResult result (λ r. (r ≡ image.now) × (slots_wrong image.now ≡ false)) (λ s. Some s ≡ first_in (slot_count image.now) (slot_wrong image.now)) }
+    {
+        match first_wrong_slot(image) {
+            Some(s) => Err(s),
+            None => Ok(Slots {
+                bytes: image.bytes(),
+            }),
+        }
+    }
+
+    // The image, and what is known of its slots.
+    pub fn image(&self) -> Image<'a>
+        ensures value { result ≡ self.now }
+        ensures right { slots_wrong self.now ≡ false }
+    {
+        Image::new(self.bytes)
+    }
 }

@@ -38,6 +38,8 @@ pub mod ListEntries
 -- What the code computes, turn by turn and test by test, as far as several crates need it: a search for the first number that
 -- passes a test, a count of those that do, a step, the walk of a query, what the searches answer.
 pub mod Scans
+pub mod FirstPlaces
+pub mod Finds
 pub mod Tallies
 pub mod Stepping
 pub mod QueryLabels
