@@ -15,7 +15,6 @@ use Rattle.lxtr_spec.specs.Image.{label_count, label_at}
 use Rattle.lxtr_spec.specs.Refusals.{same_label, label_wrong}
 use Rattle.lxtr_laws.specs.Tests.{cond_within}
 use Rattle.lxtr_laws.specs.RangeTests.{below_suc, any_true}
-use Rattle.lxtr_laws.specs.Passed.{Passed}
 
 -- one chain for each remainder
 abbrev pub chain_count : ℕ
@@ -96,8 +95,8 @@ module _ (b : List ℕ) where
 
   module _ (i : ℕ) (last before : List ℕ) (c : Chained b i last before) where
     -- the label at place i is appended to its chain
-    pub chained_next : (label chain : ℕ) → Passed b → i < label_count b → label ≡ label_at b i → chain ≡ chain_of label → Chained b (i + 1) (set last chain (i + 1)) (set before i (get_or last chain 0))
-    chained_next label chain ok h same e = record {
+    pub chained_next : (label chain : ℕ) → label_count b ≤ max_listed → i < label_count b → label ≡ label_at b i → chain ≡ chain_of label → Chained b (i + 1) (set last chain (i + 1)) (set before i (get_or last chain 0))
+    chained_next label chain few h same e = record {
       chains = length-set last chain (i + 1) ∙ c.chains;
       places = length-set before i (get_or last chain 0) ∙ c.places;
       ends = λ k l. end k l (eqb (chain_of (label_at b i)) k) refl;
@@ -119,16 +118,10 @@ module _ (b : List ℕ) where
             get_or-set_other last chain k (i + 1) 0 (λ q. n (sym (q ∙ own))) ∙ c.ends k l ∙ sym (rw add-one (last_stays k i n))
 
         now : (j : ℕ) → j ≡ i → get_or (set before i (get_or last chain 0)) j 0 ≡ last_in b (chain_of (label_at b j)) j
-        now j q = rw (q, get_or-set_same before i (get_or last chain 0) 0 (omega (arith, c.places, ok.labels)), ← own) (c.ends chain (omega (arith, there, c.chains)))
+        now j q = rw (q, get_or-set_same before i (get_or last chain 0) 0 (omega (arith, c.places)), ← own) (c.ends chain (omega (arith, there, c.chains)))
 
         then : (j : ℕ) → j < i → get_or (set before i (get_or last chain 0)) j 0 ≡ last_in b (chain_of (label_at b j)) j
         then j l = get_or-set_other before i j (get_or last chain 0) 0 (λ q. omega arith) ∙ c.links j l
-
-    pub chain_there : (label chain : ℕ) → chain ≡ chain_of label → chain < length last
-    chain_there label chain e = omega (arith, chain_below label, c.chains)
-
-    pub place_there : Passed b → i < label_count b → i < length before
-    place_there ok h = omega (arith, c.places, ok.labels)
 
 -- The search goes back through the chain of the label at place i: an earlier place lists that label exactly when one of the first
 -- `from` places does.
@@ -163,9 +156,6 @@ module _ (b : List ℕ) (i label : ℕ) (own : label ≡ label_at b i) (last bef
 
       pub look_inside : i < label_count b → entry - 1 < label_count b
       look_inside l = omega (arith, look_below)
-
-      pub look_there : Passed b → i < label_count b → entry - 1 < length before
-      look_there ok l = omega (arith, look_below, c.places, ok.labels)
 
       -- l is the label of the entry's place
       module _ (l : ℕ) (read : l ≡ label_at b (entry - 1)) where
