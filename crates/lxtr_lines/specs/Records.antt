@@ -6,6 +6,7 @@ use Rattle.std.proofs.Common.{◌∙◌}
 use borrow.Author.Tests.{not-false, lt-ltb, le-ltb, lt-leb, le-leb}
 use Rattle.std.proofs.Math.ListN.{get_or, length-drop}
 use Rattle.std.proofs.Math.Seq.{length-take-le, get_or-take, get_or-drop, ext_get_or}
+use Rattle.std.specs.Prelude.{Option, MatchOption}
 use Rattle.lxtr_spec.specs.Numbers.{be32}
 use Rattle.lxtr_spec.specs.Labels.{max_labels, labels_of, Pair}
 use Rattle.lxtr_spec.specs.KeyLists.{key_length, key_label, key_at, next_key}
@@ -13,6 +14,8 @@ use Rattle.lxtr_laws.specs.RangeTests.{tests}
 use Rattle.lxtr_laws.specs.QueryLabels.{label_count_lem, label_read}
 use Rattle.lxtr_build_laws.specs.KeyListFacts.{WholeKey}
 use Rattle.lxtr_build_laws.specs.KeyReading.{key_size, key_at_lem}
+use Rattle.lxtr_lines.specs.declared.records.Record.{Record}
+use Rattle.lxtr_lines.specs.declared.records.Records.{Records}
 
 -- the pair of the record at a place, and the place after it
 unfoldable pub record_pair : List ℕ → ℕ → Pair
@@ -52,6 +55,14 @@ module _ (b : List ℕ) (at : ℕ) where
     unfolding is_whole_record record_end
     ends_within next h e = rw (lt-ltb at (length b) starts, le-leb (key_length b at) max_labels (omega arith), e) refl
 
+  pub next_record : is_whole_record b at ≡ true → (at < length b) × (at < record_end b at)
+  unfolding record_end next_key
+  next_record e = let w = whole_record e in (w.key.starts, omega arith)
+
+  pub whole_end : is_whole_record b at ≡ true → record_end b at ≤ length b
+  unfolding record_end
+  whole_end e = (whole_record e).ends
+
 -- what a record holds
 module _ (b : List ℕ) (at : ℕ) (whole : is_whole_record b at ≡ true) where
   pub record_starts : at < length b
@@ -60,10 +71,6 @@ module _ (b : List ℕ) (at : ℕ) (whole : is_whole_record b at ≡ true) where
   module _ (next : ℕ) (is : next ≡ next_key b at) where
     pub value_place : next + 4 ≤ length b
     value_place = omega (arith, (whole_record b at whole).ends)
-
-    pub value_read : (v : ℕ) → v ≡ be32 b next → v ≡ (record_pair b at).1
-    unfolding record_pair
-    value_read v e = e ∙ ap (be32 b) is
 
     pub labels_start : at + 1 ≤ next
     unfolding next_key
@@ -99,3 +106,13 @@ module _ (b : List ℕ) (at : ℕ) (whole : is_whole_record b at ≡ true) where
         ext_get_or 0 (labels_of part) (key_at b at) (omega (arith, label_count_lem part, part_length, key_size b at)) (λ j l.
         let h : j < key_length b at = omega (arith, label_count_lem part, part_length) in
         sym (label_read part j l (be32 part (4 * j)) refl) ∙ part_label j h ∙ sym (key_at_lem b at j h))
+
+    pub record_read : (v : ℕ) → v ≡ be32 b next → (labels_of (take (next - (at + 1)) (drop (at + 1) b)), v) ≡ record_pair b at
+    unfolding record_pair
+    record_read v e = rw (labels_read, e, is) refl
+
+-- ---- the records one after the other: s, what is given, and t are the rest before, the record and the rest after
+
+abbrev pub NextRecord : Records → Option Record → Records → Type 0
+NextRecord s r t = MatchOption r (is_whole_record s.listing.now s.at ≡ false)
+    (λ p. (is_whole_record s.listing.now s.at ≡ true) × ((labels_of p.labels.now, p.value) ≡ record_pair s.listing.now s.at) × (t.listing.now ≡ s.listing.now) × (t.at ≡ record_end s.listing.now s.at))

@@ -1,72 +1,57 @@
-// Appends the labels of a key, as text and in hexadecimal. They are given as bytes, four to a label.
-ghost use Rattle.std.specs.Prelude.{◌∷◌, ◌≤◌, length, drop};
+// Writes the labels of a key, as text and in hexadecimal. They are given as bytes, four to a label.
+ghost use Rattle.std.specs.Prelude.{◌≡◌, ◌∷◌, length, drop};
 ghost use Rattle.lxtr_spec.specs.Labels.{labels_of};
 ghost use Rattle.lxtr_spec.specs.Lines.{space, hexadecimal, labels_text};
 ghost use Rattle.lxtr_command_spec.specs.Forms.{shown_all, spaced, key_text};
-ghost use Rattle.lxtr_text.specs.Appends.{Appended};
+ghost use Rattle.lxtr_text.specs.Writing.{wrote};
 
 use lxtr_bytes::labels::{label_at, label_count};
-use lxtr_text::appending::append_byte;
-use lxtr_text::characters::append_shown;
-use lxtr_text::numerals::append_hexadecimal;
+use lxtr_text::Line;
 
-pub fn append_text(line: &mut [u8], at: usize, labels: &[u8]) -> usize
-    requires { at ≤ length line.old }
-    ensures { Appended line.old at (shown_all (labels_of labels.now)) line.new result }
+pub fn append_text(line: &mut Line<'_>, labels: &[u8])
+    ensures { line.new ≡ wrote line.old (shown_all (labels_of labels.now)) }
 {
-    let count = label_count(labels);
-    let mut end = at;
-    let mut i: usize = 0;
-    while i < count {
-        end = append_shown(line, end, label_at(labels, i));
-        i += 1;
+    for i in 0..label_count(labels) {
+        line.shown(label_at(labels, i));
     }
-    end
 }
 
-// Appends a space and a label in hexadecimal.
-fn append_label(line: &mut [u8], at: usize, x: u32) -> usize
-    requires { at ≤ length line.old }
-    ensures { Appended line.old at (space ∷ hexadecimal x) line.new result }
+// Writes a space and a label in hexadecimal.
+#[tactic(auto, using(lxtr_text::specs::Writing::wrote_wrote))]
+fn append_label(line: &mut Line<'_>, x: u32)
+    ensures { line.new ≡ wrote line.old (space ∷ hexadecimal x) }
 {
-    let next = append_byte(line, at, b' ');
-    append_hexadecimal(line, next, x)
+    line.push(b' ');
+    line.hexadecimal(x);
 }
 
-// Appends the labels in hexadecimal, starting at label `from`, with a space before each.
-pub fn append_labels(line: &mut [u8], at: usize, labels: &[u8], from: usize) -> usize
-    requires { at ≤ length line.old }
-    ensures { Appended line.old at (labels_text (drop from (labels_of labels.now))) line.new result }
+// Writes the labels in hexadecimal, starting at label `from`, with a space before each.
+pub fn append_labels(line: &mut Line<'_>, labels: &[u8], from: usize)
+    ensures { line.new ≡ wrote line.old (labels_text (drop from (labels_of labels.now))) }
 {
-    let count = label_count(labels);
-    let mut end = at;
-    let mut i = from;
-    while i < count {
-        end = append_label(line, end, label_at(labels, i));
-        i += 1;
+    for i in from..label_count(labels) {
+        append_label(line, label_at(labels, i));
     }
-    end
 }
 
-// Appends all labels in hexadecimal, with a space between.
-pub fn append_spaced(line: &mut [u8], at: usize, labels: &[u8]) -> usize
-    requires { at ≤ length line.old }
-    ensures { Appended line.old at (spaced (labels_of labels.now)) line.new result }
+// Writes all labels in hexadecimal, with a space between.
+pub fn append_spaced(line: &mut Line<'_>, labels: &[u8])
+    ensures { line.new ≡ wrote line.old (spaced (labels_of labels.now)) }
 {
     if label_count(labels) == 0 {
-        return at;
+        return;
     }
-    let next = append_hexadecimal(line, at, label_at(labels, 0));
-    append_labels(line, next, labels, 1)
+    line.hexadecimal(label_at(labels, 0));
+    append_labels(line, labels, 1);
 }
 
-// Appends the text and the labels of a key, and ends the line.
-pub fn append_key(line: &mut [u8], at: usize, labels: &[u8]) -> usize
-    requires { at ≤ length line.old }
-    ensures { Appended line.old at (key_text (labels_of labels.now)) line.new result }
+// Writes the text and the labels of a key, and ends the line.
+#[tactic(auto, unfolding(lxtr_command_spec::specs::Forms::key_text), using(lxtr_text::specs::Writing::wrote_wrote))]
+pub fn append_key(line: &mut Line<'_>, labels: &[u8])
+    ensures { line.new ≡ wrote line.old (key_text (labels_of labels.now)) }
 {
-    let text_end = append_text(line, at, labels);
-    let start = append_byte(line, text_end, b'\t');
-    let end = append_spaced(line, start, labels);
-    append_byte(line, end, b'\n')
+    append_text(line, labels);
+    line.push(b'\t');
+    append_spaced(line, labels);
+    line.push(b'\n');
 }

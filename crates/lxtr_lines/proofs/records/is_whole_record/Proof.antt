@@ -4,8 +4,8 @@ use native.Mathlib.Omega.{arith}
 use Rattle.lxtr_spec.specs.Labels.{max_labels}
 use Rattle.lxtr_spec.specs.KeyLists.{next_key}
 use Rattle.lxtr_lines.specs.Records.{starts_past, key_long, ends_within}
-use Rattle.lxtr_lines.proofs.is_whole_record.Statement.{statement}
-use Rattle.lxtr_lines.proofs.is_whole_record.Tie as tie
+use Rattle.lxtr_lines.proofs.records.is_whole_record.Statement.{statement}
+use Rattle.lxtr_lines.proofs.records.is_whole_record.Tie as tie
 
 pub is_whole_record_spec : {M : Type 1} → statement M
 unfolding max_labels next_key
