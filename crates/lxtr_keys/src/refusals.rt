@@ -2,6 +2,7 @@
 // above the key before it.
 ghost use Rattle.std.specs.Prelude.{◌≡◌, ◌≤◌, ◌<◌, length};
 ghost use Rattle.lxtr_spec.specs.Ranges.{any_below};
+ghost use Rattle.lxtr_spec.specs.Answers.{refusal_of};
 ghost use Rattle.lxtr_spec.specs.Labels.{comes_before};
 ghost use Rattle.lxtr_spec.specs.KeyLists.{keys_at, key_length, key_at, no_scalar_at, not_above, key_refusal, keys_refusal};
 ghost use Rattle.lxtr_build_laws.specs.KeyListFacts.{WholeKey};
@@ -10,9 +11,10 @@ ghost use Rattle.lxtr_keys.specs.KeyRefusals.{WholeBefore};
 use crate::{KEYS_AT, key_label, key_length, next_key};
 use lxtr_bytes::labels::is_scalar;
 use lxtr_spec::MAX_LABELS;
-use lxtr_spec::refusals::{KEY_TOO_LONG, KEYS_NOT_ASCENDING, LIST_MALFORMED, NOT_SCALAR};
+use lxtr_spec::refusals::Refusal;
 
 // Whether label j of the key at `at` is not a scalar value.
+#[tactic(auto, unfolding(lxtr_spec::specs::KeyLists::no_scalar_at))]
 fn no_scalar_at(keys: &[u8], at: usize, j: usize) -> bool
     requires whole_key { WholeKey keys.now at }
     requires j_bound { j < key_length keys.now at }
@@ -27,12 +29,10 @@ fn some_no_scalar(keys: &[u8], at: usize) -> bool
     ensures { result ≡ any_below (key_length keys.now at) (no_scalar_at keys.now at) }
 {
     let len = key_length(keys, at);
-    let mut j: usize = 0;
-    while j < len {
+    for j in 0..len {
         if no_scalar_at(keys, at, j) {
             return true;
         }
-        j += 1;
     }
     false
 }
@@ -45,8 +45,7 @@ fn comes_before(keys: &[u8], before: usize, at: usize) -> bool
 {
     let m = key_length(keys, before);
     let n = key_length(keys, at);
-    let mut same: usize = 0;
-    while same < m {
+    for same in 0..m {
         if n <= same {
             return false;
         }
@@ -55,7 +54,6 @@ fn comes_before(keys: &[u8], before: usize, at: usize) -> bool
         if x != y {
             return x < y;
         }
-        same += 1;
     }
     m < n
 }
@@ -72,48 +70,43 @@ fn not_above(keys: &[u8], i: usize, before: usize, at: usize) -> bool
     !comes_before(keys, before, at)
 }
 
-// The first of refusals 15 and 17 to 19 that holds of key i, or 0.
-fn key_refusal(keys: &[u8], i: usize, before: usize, at: usize) -> u8
+// The first of refusals 15 and 17 to 19 that holds of key i.
+fn key_refusal(keys: &[u8], i: usize, before: usize, at: usize) -> Result<(), Refusal>
     requires { WholeBefore keys.now i before }
-    ensures { result ≡ key_refusal keys.now i before at }
+    ensures { refusal_of result ≡ key_refusal keys.now i before at }
 {
     if keys.len() <= at {
-        return LIST_MALFORMED;
+        return Err(Refusal::ListMalformed);
     }
     if MAX_LABELS < key_length(keys, at) {
-        return KEY_TOO_LONG;
+        return Err(Refusal::KeyTooLong);
     }
     if keys.len() < next_key(keys, at) {
-        return LIST_MALFORMED;
+        return Err(Refusal::ListMalformed);
     }
     if some_no_scalar(keys, at) {
-        return NOT_SCALAR;
+        return Err(Refusal::NotScalar);
     }
     if not_above(keys, i, before, at) {
-        return KEYS_NOT_ASCENDING;
+        return Err(Refusal::KeysNotAscending);
     }
-    0
+    Ok(())
 }
 
-// The first of these that holds of the `count` keys, then 15 for bytes left over; or 0.
-pub fn keys_refusal(keys: &[u8], count: usize) -> u8
+// The first of these that holds of the `count` keys, then 15 for bytes left over.
+pub fn keys_refusal(keys: &[u8], count: usize) -> Result<(), Refusal>
     requires { keys_at ≤ length keys.now }
-    ensures { result ≡ keys_refusal keys.now count 0 0 keys_at }
+    ensures { refusal_of result ≡ keys_refusal keys.now count 0 0 keys_at }
 {
-    let mut i: usize = 0;
     let mut before: usize = 0;
     let mut at: usize = KEYS_AT;
-    while i < count {
-        let refusal = key_refusal(keys, i, before, at);
-        if refusal != 0 {
-            return refusal;
-        }
+    for i in 0..count {
+        key_refusal(keys, i, before, at)?;
         before = at;
         at = next_key(keys, at);
-        i += 1;
     }
     if at < keys.len() {
-        return LIST_MALFORMED;
+        return Err(Refusal::ListMalformed);
     }
-    0
+    Ok(())
 }
