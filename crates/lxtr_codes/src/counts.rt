@@ -6,11 +6,11 @@ ghost use Rattle.lxtr_build_laws.specs.KeyListFacts.{WholeKey, KeysPassed};
 ghost use Rattle.lxtr_build_laws.specs.CodeTables.{Rising, place_in};
 ghost use Rattle.lxtr_codes.specs.LabelCounting.{Countable, count_one, KeyCounted, Counted};
 
-use crate::guesses::find_guessed;
+use crate::guesses::{Guesses, find_guessed};
 use lxtr_keys::{KEYS_AT, key_count, key_label, key_length, next_key};
 
 // Adds one to the count of a label.
-fn count_label(labels: &[u32], guesses: &[u32], counts: &mut [u32], label: u32)
+fn count_label(labels: &[u32], guesses: &Guesses, counts: &mut [u32], label: u32)
     requires rising { Rising labels.now }
     requires label_in_bounds { place_in labels.now label < length counts.old }
     requires label_bound { get_or counts.old (place_in labels.now label) 0 + 1 < 2 ^ 32 }
@@ -21,23 +21,21 @@ fn count_label(labels: &[u32], guesses: &[u32], counts: &mut [u32], label: u32)
 }
 
 // Adds each label of the key at `at` to the counts, as often as it occurs there.
-fn count_key(keys: &[u8], at: usize, labels: &[u32], guesses: &[u32], counts: &mut [u32])
+fn count_key(keys: &[u8], at: usize, labels: &[u32], guesses: &Guesses, counts: &mut [u32])
     requires whole_key { WholeKey keys.now at }
     requires rising { Rising labels.now }
     requires countable { Countable (key_at keys.now at) labels.now counts.old }
     ensures { KeyCounted (key_at keys.now at) labels.now counts.old counts.new }
 {
     let len = key_length(keys, at);
-    let mut j: usize = 0;
-    while j < len {
+    for j in 0..len {
         let label = key_label(keys, at, j);
         count_label(labels, guesses, counts, label);
-        j += 1;
     }
 }
 
 // Counts the frequency of each label, starting from counts that are all zero.
-pub fn count_keys(keys: &[u8], labels: &[u32], guesses: &[u32], counts: &mut [u32])
+pub fn count_keys(keys: &[u8], labels: &[u32], guesses: &Guesses, counts: &mut [u32])
     requires keys_passed { KeysPassed keys.now }
     requires labels_value { labels.now ≡ labels_used (pairs_of keys.now) [] }
     requires labels_in_bounds { length labels.now ≤ length counts.old }
@@ -47,10 +45,8 @@ pub fn count_keys(keys: &[u8], labels: &[u32], guesses: &[u32], counts: &mut [u3
 {
     let count = key_count(keys);
     let mut at: usize = KEYS_AT;
-    let mut i: usize = 0;
-    while i < count {
+    for _i in 0..count {
         count_key(keys, at, labels, guesses, counts);
         at = next_key(keys, at);
-        i += 1;
     }
 }

@@ -13,14 +13,15 @@ ghost use Rattle.lxtr_spec.specs.Labels.{max_listed};
 ghost use Rattle.lxtr_spec.specs.KeyLists.{pairs_of};
 ghost use Rattle.lxtr_spec.specs.CodeMaps.{labels_used};
 ghost use Rattle.lxtr_build_laws.specs.KeyListFacts.{KeysPassed};
-ghost use Rattle.lxtr_build_laws.specs.CodeTables.{table_size, Mapped};
+ghost use Rattle.lxtr_build_laws.specs.CodeTables.{table_size, MappedOr};
 ghost use Rattle.lxtr_codes.specs.Mapping.{CodedFront};
 
 use crate::counts::count_keys;
-use crate::guesses::{GUESS_COUNT, note_all};
+use crate::guesses::Guesses;
 use crate::labels::gather_labels;
 use crate::ranks::{assign, rank};
 use lxtr_spec::MAX_LISTED;
+use lxtr_spec::refusals::Refusal;
 
 // The size of each table: one more than the number of labels that a code map may list, so that too many are noticed.
 pub const TABLE_SIZE: usize = MAX_LISTED + 1;
@@ -29,7 +30,7 @@ pub const TABLE_SIZE: usize = MAX_LISTED + 1;
 fn code_labels(
     keys: &[u8],
     labels: &[u32],
-    guesses: &mut [u32],
+    guesses: &mut Guesses,
     codes: &mut [u32],
     order: &mut [u32],
 )
@@ -40,23 +41,25 @@ fn code_labels(
 {
     let n = labels.len();
     let mut counts = [0u32; TABLE_SIZE];
-    note_all(labels, guesses);
+    guesses.note_all(labels);
     count_keys(keys, labels, guesses, &mut counts);
     rank(&counts[..n], order);
     assign(&order[..n], codes);
 }
 
-// Fills the tables. Returns the number of labels, which is the number of places filled; above MAX_LISTED there are too many.
-pub fn code_map(keys: &[u8], labels: &mut [u32], codes: &mut [u32], order: &mut [u32]) -> usize
+// Fills the tables. Returns the number of labels, which is the number of places filled.
+pub fn code_map(
+    keys: &[u8],
+    labels: &mut [u32],
+    codes: &mut [u32],
+    order: &mut [u32],
+) -> Result<usize, Refusal>
     requires keys_passed { KeysPassed keys.now }
     requires labels_len { (length labels.old ≡ table_size) × (length codes.old ≡ table_size) × (length order.old ≡ table_size) }
-    ensures { Mapped (pairs_of keys.now) labels.new codes.new order.new result }
+    ensures { MappedOr (pairs_of keys.now) labels.new codes.new order.new result }
 {
-    let mut guesses = [0u32; GUESS_COUNT];
-    let n = gather_labels(keys, labels, &mut guesses);
-    if MAX_LISTED < n {
-        return n;
-    }
+    let mut guesses = Guesses::new();
+    let n = gather_labels(keys, labels, &mut guesses)?;
     code_labels(keys, &labels[..n], &mut guesses, codes, order);
-    n
+    Ok(n)
 }
