@@ -1,14 +1,14 @@
 // First fit: the smallest base under which the slots of some codes are free. Only `first_fit` and its parts search for a base. They
 // look at a block of WORD_BITS bases at a time, in the map of free slots.
-ghost use Rattle.std.specs.Prelude.{◌≡◌, ◌*◌, ◌-◌, ◌≤◌};
+ghost use Rattle.std.specs.Prelude.{◌≡◌, ℕ, List, ◌*◌, ◌-◌, ◌≤◌};
 ghost use Rattle.lxtr_spec.specs.Placing.{first_fit, base_count};
 ghost use Rattle.lxtr_laws.specs.SlotMaps.{word_bits, BitsOf};
 ghost use Rattle.lxtr_laws.specs.Firsts.{FirstOf};
 ghost use Rattle.lxtr_fit.specs.FreeMaps.{FreeMap, all_under};
 
-use crate::free_map::next_free;
+use crate::free_map::{FreeSlots, next_free};
 use lxtr_image::joined_words::{ALL_BITS, WORD_BITS, word_under};
-use lxtr_spec::{BASE_COUNT};
+use lxtr_spec::BASE_COUNT;
 
 // The number of blocks of bases.
 const BLOCK_COUNT: u32 = BASE_COUNT as u32 / WORD_BITS;
@@ -18,28 +18,24 @@ fn bases_in(free: &[u64], block: u32, codes: &[u32]) -> u64
     ensures { BitsOf (all_under free.now codes.now) (word_bits * block) word_bits result }
 {
     let mut bases = ALL_BITS;
-    let mut j: usize = 0;
-    while j < codes.len() {
-        bases = bases & word_under(free, block, codes[j]);
+    for code in codes {
+        bases &= word_under(free, block, *code);
         if bases == 0 {
             return 0;
         }
-        j += 1;
     }
     bases
 }
 
 // The smallest base from block `first` on under which the slots of all codes are free, or nothing if there is none.
-fn fit_from(free: &[u64], first: u32, codes: &[u32]) -> Found
+fn fit_from(free: &[u64], first: u32, codes: &[u32]) -> Option<u32>
     ensures { FirstOf (all_under free.now codes.now) (word_bits * first) base_count result }
 {
-    let mut block = first;
-    while block < BLOCK_COUNT {
+    for block in first..BLOCK_COUNT {
         let bases = bases_in(free, block, codes);
         if bases != 0 {
-            return Some(WORD_BITS * block + u64::trailing_zeros(bases));
+            return Some(WORD_BITS * block + bases.trailing_zeros());
         }
-        block += 1;
     }
     None
 }
@@ -48,27 +44,22 @@ fn fit_from(free: &[u64], first: u32, codes: &[u32]) -> Found
 fn first_block(t: u32, code: u32) -> u32
     ensures { word_bits * result ≤ t - code }
 {
-    if t < code {
-        return 0;
-    }
-    (t - code) / WORD_BITS
+    t.saturating_sub(code) / WORD_BITS
 }
 
-// The smallest base under which the slots of all codes are free, or nothing if no base fits. The map says which slots of the work
-// are free, and no slot below `lowest` is. `lowest` rises to the first free slot; lower blocks, in which the first code stays
-// below that slot under every base, are left out. Only the contract reads `work` and `slots`.
-pub fn first_fit(work: &[u32], slots: usize, free: &[u64], lowest: &mut u32, codes: &[u32]) -> Found
-    requires { FreeMap slots work.now free.now lowest.old }
-    ensures result_value { result ≡ first_fit slots work.now codes.now }
-    ensures free_map { FreeMap slots work.now free.now lowest.new }
-{
-    if codes.len() == 0 {
-        return Some(0);
+impl FreeSlots {
+    // The smallest base under which the slots of all codes are free, or nothing if no base fits. `lowest` rises to the first free
+    // slot; lower blocks, in which the first code stays below that slot under every base, are left out. The contract speaks of
+    // each work of which this is the map.
+    pub fn first_fit(&mut self, codes: &[u32]) -> Option<u32>
+        ensures result_value { (S : ℕ) (w : List ℕ) → FreeMap S w self.old.map self.old.lowest → result ≡ first_fit S w codes.now }
+        ensures free_map { (S : ℕ) (w : List ℕ) → FreeMap S w self.old.map self.old.lowest → FreeMap S w self.new.map self.new.lowest }
+    {
+        if codes.is_empty() {
+            return Some(0);
+        }
+        let t = next_free(&self.map, self.lowest)?;
+        self.lowest = t;
+        fit_from(&self.map, first_block(t, codes[0]), codes)
     }
-    let next = next_free(free, *lowest);
-    let Some(t) = next else {
-        return None;
-    };
-    *lowest = t;
-    fit_from(free, first_block(t, codes[0]), codes)
 }

@@ -5,11 +5,9 @@ ghost use Rattle.lxtr_spec.specs.Builds.{slots_in};
 use lxtr_spec::MAX_SLOTS;
 
 // The number of slots that work of this many words allows.
+#[tactic(auto, unfolding(lxtr_spec::specs::Builds::slots_in))]
 pub fn slots_in(words: usize) -> usize
     ensures { result ≡ slots_in words }
 {
-    if words / 2 < MAX_SLOTS {
-        return words / 2;
-    }
-    MAX_SLOTS
+    (words / 2).min(MAX_SLOTS)
 }
