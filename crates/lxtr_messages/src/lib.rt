@@ -4,6 +4,7 @@
 
 mod refusals; // the sentence of each refusal, and of each place at fault
 
+use lxtr_lines::keys::append_text;
 use lxtr_output::{print, text_at};
 use lxtr_text::{LINE_ROOM, Line};
 pub use refusals::{print_fault, print_refusal, refuse, refuse_at};
@@ -133,7 +134,7 @@ pub fn say(sentence: Sentence) {
 pub fn print_text(labels: &[u8]) {
     let mut room = [0u8; LINE_ROOM];
     let mut line = Line::new(&mut room);
-    line.text(labels);
+    append_text(&mut line, labels);
     print(line.as_slice());
 }
 
