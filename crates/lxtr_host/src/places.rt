@@ -1,37 +1,31 @@
 // Numbers put into lent words: the matches of prefixes, as alternating length and value; or one number.
-ghost use Rattle.std.specs.Prelude.{◌≡◌, [], ◌∷◌};
+ghost use Rattle.std.specs.Prelude.{◌≡◌, [], ◌∷◌, map};
 ghost use Rattle.lxtr_spec.specs.HostNumbers.{alternately, at_front};
+ghost use Rattle.lxtr_host.specs.PlaceWords.{length_in, value_in};
 
-use lxtr_spec::LENGTH_COUNT;
+use lxtr_spec::{LENGTH_COUNT, Match};
 
 // The number of words for all lengths and values.
 const WORD_COUNT: usize = 2 * LENGTH_COUNT;
 
 // Writes lengths and values to the front of `places`, as many as fit. Words after them stay.
-pub fn put_places<'a>(
-    lengths: &'a [u32; LENGTH_COUNT],
-    values: &'a [u32; LENGTH_COUNT],
-    places: &mut [u32],
-)
-    ensures { places.new ≡ at_front (alternately lengths.now values.now) places.old }
+pub fn put_places(matches: &[Match; LENGTH_COUNT], places: &mut [u32])
+    ensures { places.new ≡ at_front (alternately (map length_in matches.now) (map value_in matches.now)) places.old }
 {
     let count = WORD_COUNT.min(places.len());
     let pairs = count / 2;
-    let mut i = 0;
-    while i < pairs {
-        let at = 2 * i;
-        places[at] = lengths[i];
-        places[at + 1] = values[i];
-        i += 1;
+    for i in 0..pairs {
+        places[2 * i] = matches[i].length;
+        places[2 * i + 1] = matches[i].value;
     }
     // an odd number of words ends with a length
-    let at = 2 * i;
-    if at < count {
-        places[at] = lengths[i];
+    if 2 * pairs < count {
+        places[2 * pairs] = matches[pairs].length;
     }
 }
 
 // Writes a number to word 0 of `words`, if there is one. The others stay.
+#[tactic(auto, using(crate::specs::PlaceWords::no_word, crate::specs::PlaceWords::first_word))]
 pub fn put_first(x: u32, words: &mut [u32])
     ensures { words.new ≡ at_front (x ∷ []) words.old }
 {
