@@ -1,21 +1,20 @@
 // The command that draws an image as a graph for Graphviz. What is drawn of a slot and of an entry is decided by `lxtr_draw`.
 ghost use Rattle.std.specs.Prelude.{◌≡◌, ◌<◌};
 ghost use Rattle.lxtr_spec.specs.Image.{slot_count, child_count};
-ghost use Rattle.lxtr_laws.specs.Passed.{Passed};
 ghost use Rattle.lxtr_command_spec.specs.Drawings.{list_of};
 
 use lxtr_draw::{entry_text, list_of, slot_text, step_text};
-use lxtr_header::header_refusal;
-use lxtr_image::sections::{child_count, slot_count};
-use lxtr_messages::{end, has_place, print_fault, print_refusal};
+use lxtr_header::read;
+use lxtr_image::Image;
+use lxtr_messages::{end, print_fault, print_refusal};
 use lxtr_output::print;
 use lxtr_spec::Fault;
+use lxtr_spec::refusals::Refusal;
 use lxtr_text::LINE_ROOM;
 
 // Prints a slot, and the step to it from its parent.
-fn draw_slot(image: &[u8], fault: Fault, s: u32)
-    requires passed { Passed image.now }
-    requires s_bound { s < slot_count image.now }
+fn draw_slot(image: &Image, fault: Option<Fault>, s: u32)
+    requires { s < slot_count image.now }
 {
     let mut line = [0u8; LINE_ROOM];
     let length = slot_text(image, fault, s, &mut line);
@@ -24,20 +23,14 @@ fn draw_slot(image: &[u8], fault: Fault, s: u32)
     print(&line[..size]);
 }
 
-fn draw_slots(image: &[u8], fault: Fault)
-    requires { Passed image.now }
-{
-    let slots = slot_count(image);
-    let mut s: u32 = 0;
-    while s < slots {
+fn draw_slots(image: &Image, fault: Option<Fault>) {
+    for s in 0..image.slot_count() {
         draw_slot(image, fault, s);
-        s += 1;
     }
 }
 
 // Prints entry j, which lies in the list of slot p.
-fn draw_entry(image: &[u8], fault: Fault, p: u32, j: u32)
-    requires passed { Passed image.now }
+fn draw_entry(image: &Image, fault: Option<Fault>, p: u32, j: u32)
     requires j_bound { j < child_count image.now }
     requires p_value { p ≡ list_of image.now j }
 {
@@ -47,45 +40,42 @@ fn draw_entry(image: &[u8], fault: Fault, p: u32, j: u32)
 }
 
 // The search for the slot of an entry starts at the slot of the entry before it.
-fn draw_entries(image: &[u8], fault: Fault)
-    requires { Passed image.now }
-{
-    let children = child_count(image);
+fn draw_entries(image: &Image, fault: Option<Fault>) {
     let mut p: u32 = 0;
-    let mut j: u32 = 0;
-    while j < children {
+    for j in 0..image.child_count() {
         p = list_of(image, p, j);
         draw_entry(image, fault, p, j);
-        j += 1;
     }
 }
 
 // Prints what is refused, and where, above the graph.
-fn draw_refusal(refusal: u8, fault: Fault) {
+fn draw_refusal(refusal: Refusal, fault: Option<Fault>) {
     print(b"  labelloc=t;\n  fontcolor=\"#E00000\";\n  label=\"");
     print_refusal(refusal);
-    if has_place(refusal) {
+    if let Some(place) = fault {
         print(b"\\n");
-        print_fault(fault);
+        print_fault(place);
     }
     print(b"\";\n");
 }
 
 // The last line begins with #, so that Graphviz ignores it.
 pub fn draw(image: &[u8]) {
-    let refusal = lxtr_check::check(image).refusal;
     let fault = lxtr_fault::fault(image);
     print(b"digraph lxtr {\n  rankdir=LR;\n  node [shape=box];\n");
-    if header_refusal(image) == 0 {
-        draw_slots(image, fault);
-        draw_entries(image, fault);
+    if let Ok(opened) = read(image) {
+        draw_slots(&opened, fault);
+        draw_entries(&opened, fault);
     }
-    if refusal == 0 {
-        print(b"}\n");
-        end(b"#accepted");
-        return;
+    match lxtr_check::check(image) {
+        Ok(_) => {
+            print(b"}\n");
+            end(b"#accepted");
+        }
+        Err(refusal) => {
+            draw_refusal(refusal, fault);
+            print(b"}\n");
+            end(b"#refused");
+        }
     }
-    draw_refusal(refusal, fault);
-    print(b"}\n");
-    end(b"#refused");
 }

@@ -5,7 +5,7 @@
 mod makers; // build, keys
 mod draw; // draw
 
-ghost use Rattle.std.specs.Prelude.{◌*◌, ◌≤◌, length, IfSome};
+ghost use Rattle.std.specs.Prelude.{◌≤◌, length, IfSome};
 
 use crate::draw::draw;
 use crate::makers::{build, keys};
@@ -13,9 +13,7 @@ use lxtr_arguments::command;
 use lxtr_command_spec::Command;
 use lxtr_files::{FILE_ROOM, load};
 use lxtr_lookups::{check, complete, exact, longest, prefixes, probe, why};
-use lxtr_messages::{
-    ARGUMENT_NOT_UTF8, HELP, LONG_ARGUMENT, NO_COMMAND, OTHER_OPERANDS, REFUSED, print_usage, say,
-};
+use lxtr_messages::{Sentence, print_usage, say};
 use lxtr_typing::type_text;
 use lxtr_utf8::decode;
 use std::env::{Env, FillError};
@@ -35,14 +33,6 @@ fn search(image: &[u8], asked: Command, query: &[u8]) {
     }
 }
 
-// Searches for the first `count` labels of a room.
-fn search_labels(image: &[u8], asked: Command, room: &[u8], count: usize)
-    requires { 4 * count ≤ length room.now }
-{
-    let size = 4 * count;
-    search(image, asked, &room[..size]);
-}
-
 // Puts an argument at the front of `text`, and returns its length. If it does not fit, or there is none, that is said.
 fn argument(rt: &HostRuntime, place: usize, text: &mut [u8]) -> Option<usize>
     ensures { IfSome result (λ n. n ≤ length text.new) }
@@ -50,8 +40,8 @@ fn argument(rt: &HostRuntime, place: usize, text: &mut [u8]) -> Option<usize>
     if let Ok(size) = rt.arg(place, text) {
         return Some(size);
     }
-    say(LONG_ARGUMENT);
-    say(REFUSED);
+    say(Sentence::LongArgument);
+    say(Sentence::Refused);
     None
 }
 
@@ -62,13 +52,13 @@ fn search_word(rt: &HostRuntime, image: &[u8], asked: Command) {
         return;
     };
     let mut query = [0u8; QUERY_ROOM];
-    let decoded = decode(&word[..length], &mut query);
-    if decoded.problem != 0 {
-        say(ARGUMENT_NOT_UTF8);
-        say(REFUSED);
-        return;
+    match decode(&word[..length], &mut query) {
+        Ok(count) => search(image, asked, &query[..4 * count]),
+        Err(_) => {
+            say(Sentence::ArgumentNotUtf8);
+            say(Sentence::Refused);
+        }
     }
-    search_labels(image, asked, &query, decoded.count);
 }
 
 // Types the text that is the fourth argument.
@@ -82,9 +72,7 @@ fn type_argument(rt: &HostRuntime, image: &[u8], kana: &[u8]) {
 // Types with the kana table in the file that the third argument names.
 fn type_with_table(rt: &HostRuntime, image: &[u8]) {
     let mut room = [0u8; FILE_ROOM];
-    let mut is_whole = false;
-    let size = load(rt, 3, &mut room, &mut is_whole);
-    if is_whole {
+    if let Some(size) = load(rt, 3, &mut room) {
         type_argument(rt, image, &room[..size]);
     }
 }
@@ -110,9 +98,7 @@ fn run_on(rt: &HostRuntime, file: &[u8], asked: Command, operands: usize) {
 
 fn run_on_file(rt: &HostRuntime, asked: Command, operands: usize) {
     let mut room = [0u8; FILE_ROOM];
-    let mut is_whole = false;
-    let size = load(rt, 2, &mut room, &mut is_whole);
-    if is_whole {
+    if let Some(size) = load(rt, 2, &mut room) {
         run_on(rt, &room[..size], asked, operands);
     }
 }
@@ -121,15 +107,15 @@ fn run(rt: &HostRuntime, asked: Command, operands: usize) {
     match asked {
         Command::Help => {
             print_usage();
-            say(HELP);
+            say(Sentence::Help);
         }
         Command::Unknown => {
-            say(NO_COMMAND);
-            say(REFUSED);
+            say(Sentence::NoCommand);
+            say(Sentence::Refused);
         }
         Command::WrongOperands => {
-            say(OTHER_OPERANDS);
-            say(REFUSED);
+            say(Sentence::OtherOperands);
+            say(Sentence::Refused);
         }
         _ => run_on_file(rt, asked, operands),
     }

@@ -1,10 +1,7 @@
 // The commands that write files: build and keys. A file is written only once all of its contents are known.
-use lxtr_command_spec::{LONG_WORD, MANY_WORDS, NOT_UTF8};
+use lxtr_command_spec::WordProblem;
 use lxtr_files::{LARGEST_FILE, save};
-use lxtr_messages::{
-    BYTES, KEYS, LARGE_LIST, LINE_NOT_UTF8, LONG_WORD_LINE, REFUSED, TOO_MANY_WORDS, WRITTEN,
-    printed, refuse, say, tell,
-};
+use lxtr_messages::{Sentence, printed, refuse, say, tell};
 use lxtr_spec::{MAX_KEYS, MAX_LABELS, MAX_SLOTS};
 
 // Work for as many slots as an image may have, two words for each.
@@ -28,26 +25,25 @@ fn build_in(
 }
 
 fn build_into(rt: &HostRuntime, keys: &[u8], work: &mut [u32], out: &mut [u8]) {
-    let built = lxtr_build::build(keys, work, out);
-    if built.refusal != 0 {
-        refuse(built.refusal);
-        return;
-    }
-    if save(rt, 3, &out[..built.length as usize]) {
-        tell(BYTES, built.length, 0);
-        say(WRITTEN);
+    match lxtr_build::build(keys, work, out) {
+        Err(refusal) => refuse(refusal),
+        Ok(length) => {
+            if save(rt, 3, &out[..length as usize]) {
+                tell(Sentence::Bytes, &[length]);
+                say(Sentence::Written);
+            }
+        }
     }
 }
 
-fn print_problem(problem: u8, line: usize) {
-    if problem == NOT_UTF8 {
-        tell(LINE_NOT_UTF8, printed(line), 0);
-    } else if problem == LONG_WORD {
-        tell(LONG_WORD_LINE, printed(line), printed(MAX_LABELS));
-    } else if problem == MANY_WORDS {
-        tell(TOO_MANY_WORDS, printed(MAX_KEYS), 0);
-    } else {
-        tell(LARGE_LIST, printed(LARGEST_FILE), 0);
+fn print_problem(problem: WordProblem) {
+    match problem {
+        WordProblem::NotUtf8(line) => tell(Sentence::LineNotUtf8, &[printed(line)]),
+        WordProblem::LongWord(line) => {
+            tell(Sentence::LongWordLine, &[printed(line), printed(MAX_LABELS)]);
+        }
+        WordProblem::ManyWords => tell(Sentence::TooManyWords, &[printed(MAX_KEYS)]),
+        WordProblem::NoRoom => tell(Sentence::LargeList, &[printed(LARGEST_FILE)]),
     }
 }
 
@@ -64,14 +60,16 @@ fn list_in(rt: &HostRuntime, text: &[u8], out: &mut [u8; LARGEST_FILE]) {
 
 fn list_into(rt: &HostRuntime, text: &[u8], out: &mut [u8]) {
     let start = lxtr_utf8::mark_length(text);
-    let keyed = lxtr_words::key_list(&text[start..], out);
-    if keyed.problem != 0 {
-        print_problem(keyed.problem, keyed.line);
-        say(REFUSED);
-        return;
-    }
-    if save(rt, 3, &out[..keyed.length]) {
-        tell(KEYS, printed(keyed.count), 0);
-        say(WRITTEN);
+    match lxtr_words::key_list(&text[start..], out) {
+        Err(problem) => {
+            print_problem(problem);
+            say(Sentence::Refused);
+        }
+        Ok(list) => {
+            if save(rt, 3, &out[..list.length]) {
+                tell(Sentence::Keys, &[printed(list.count)]);
+                say(Sentence::Written);
+            }
+        }
     }
 }

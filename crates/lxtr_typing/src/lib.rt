@@ -3,14 +3,11 @@
 #![tactic(auto)]
 
 use lxtr_lines::keys::{append_labels, append_spaced};
-use lxtr_messages::{
-    FINISH_OUT, NOTHING_AT_FINISH, NOTHING_OUT, NOTHING_WAITS, OUT, TYPED, WAITS, print_text,
-    refuse, refuse_at, say,
-};
+use lxtr_messages::{Sentence, print_text, refuse, refuse_at, say};
 use lxtr_output::parts::{front, part};
 use lxtr_output::print;
 use lxtr_spec::MAX_LABELS;
-use lxtr_text::LINE_ROOM;
+use lxtr_text::{LINE_ROOM, Line};
 use romaji_spec::{MAX_KEPT, State};
 
 // Room for what goes out: 131,072 labels. With the kana table it takes no more of the stack than what the command build lends. It is
@@ -28,103 +25,83 @@ fn fresh() -> State {
     }
 }
 
-// Prints labels in hexadecimal, with a space before each. There are at most as many as fit a line.
-fn print_numbers(labels: &[u8]) {
-    let mut line = [0u8; LINE_ROOM];
-    let length = append_labels(&mut line, 0, labels, 0);
-    print(&line[..length]);
-}
-
-// Prints any number of labels as text.
-fn print_all_text(labels: &[u8]) {
-    let mut at: usize = 0;
-    while at < labels.len() {
-        print_text(part(labels, at, at + PART_BYTES));
-        at += PART_BYTES;
+// Prints any number of labels as text, and then in hexadecimal, with a space between.
+fn print_all(labels: &[u8]) {
+    for part in labels.chunks(PART_BYTES) {
+        print_text(part);
     }
-}
-
-// Prints any number of labels in hexadecimal, with a space between.
-fn print_all_numbers(labels: &[u8]) {
-    let mut line = [0u8; LINE_ROOM];
-    let length = append_spaced(&mut line, 0, part(labels, 0, PART_BYTES));
-    print(&line[..length]);
-    let mut at = PART_BYTES;
-    while at < labels.len() {
-        print_numbers(part(labels, at, at + PART_BYTES));
-        at += PART_BYTES;
+    print(b"\t");
+    let mut is_first = true;
+    for part in labels.chunks(PART_BYTES) {
+        let mut room = [0u8; LINE_ROOM];
+        let mut line = Line::new(&mut room);
+        if is_first {
+            append_spaced(&mut line, part);
+        } else {
+            append_labels(&mut line, part, 0);
+        }
+        print(line.as_slice());
+        is_first = false;
     }
+    print(b"\n");
 }
 
-// Prints a sentence and the labels, as text and in hexadecimal; or another sentence if there are none.
-fn print_labels(some: u8, none: u8, labels: &[u8]) {
-    if labels.len() == 0 {
+// Prints a sentence and the labels; or another sentence if there are none.
+fn print_labels(some: Sentence, none: Sentence, labels: &[u8]) {
+    if labels.is_empty() {
         say(none);
         return;
     }
     say(some);
-    print_all_text(labels);
-    print(b"\t");
-    print_all_numbers(labels);
-    print(b"\n");
+    print_all(labels);
 }
 
 // The first `count` labels of a room. They always lie in it; the test only makes the bound provable.
-fn first_labels<'a>(room: &'a [u8], count: usize) -> &'a [u8] {
-    if room.len() / 4 < count {
-        return room;
-    }
-    front(room, 4 * count)
+fn first_labels(room: &[u8], count: usize) -> &[u8] {
+    front(room, count.saturating_mul(4))
 }
 
-// Writes bytes as labels, each the label of its number. The room is zero before.
-fn put_labels(bytes: &[u8; MAX_KEPT], room: &mut [u8; PART_BYTES]) {
-    let mut i: usize = 0;
-    while i < MAX_KEPT {
-        room[4 * i + 3] = bytes[i];
-        i += 1;
-    }
-}
-
-// Prints the first `count` bytes that wait.
-fn print_waiting(bytes: &[u8; MAX_KEPT], count: usize, room: &mut [u8; PART_BYTES]) {
-    put_labels(bytes, room);
-    print_labels(WAITS, NOTHING_WAITS, first_labels(room, count));
-}
-
-// Prints what the state keeps.
+// Prints what the state keeps: each byte is the label of its number.
 fn print_kept(state: State) {
-    let bytes = state.kept;
     let mut room = [0u8; PART_BYTES];
-    print_waiting(&bytes, state.count as usize, &mut room);
+    let mut at = 3;
+    for byte in state.kept {
+        room[at] = byte;
+        at += 4;
+    }
+    print_labels(
+        Sentence::Waits,
+        Sentence::NothingWaits,
+        first_labels(&room, state.count as usize),
+    );
 }
 
 // Finishes, and prints what goes out. There is always room for what was kept; a refusal would be printed all the same.
-fn finish_in(image: &[u8], kana: &[u8], state: State, room: &mut [u8; OUT_ROOM]) {
-    let answer = romaji::finish(image, kana, state, room);
-    if answer.refusal != 0 {
-        refuse(answer.refusal);
-        return;
+fn finish_in(image: &[u8], kana: &[u8], state: &mut State, room: &mut [u8; OUT_ROOM]) {
+    match romaji::finish(image, kana, state, room) {
+        Err(refusal) => refuse(refusal),
+        Ok(count) => {
+            print_labels(
+                Sentence::FinishOut,
+                Sentence::NothingAtFinish,
+                first_labels(room, count),
+            );
+            say(Sentence::Typed);
+        }
     }
-    print_labels(
-        FINISH_OUT,
-        NOTHING_AT_FINISH,
-        first_labels(room, answer.count),
-    );
-    say(TYPED);
 }
 
 // Types in the lent room, and prints what goes out and what waits; then finishes.
 fn type_in(image: &[u8], kana: &[u8], text: &[u8], room: &mut [u8; OUT_ROOM]) {
-    let answer = romaji::type_bytes(image, kana, fresh(), text, room);
-    if answer.refusal != 0 {
-        refuse_at(answer.refusal, lxtr_fault::fault(image));
-        return;
+    let mut state = fresh();
+    match romaji::type_bytes(image, kana, &mut state, text, room) {
+        Err(refusal) => refuse_at(refusal, lxtr_fault::fault(image)),
+        Ok(count) => {
+            print_labels(Sentence::Out, Sentence::NothingOut, first_labels(room, count));
+            print_kept(state);
+            finish_in(image, kana, &mut state, room);
+        }
     }
-    print_labels(OUT, NOTHING_OUT, first_labels(room, answer.count));
-    let state = answer.state;
-    print_kept(state);
-    finish_in(image, kana, state, room);
 }
 
 pub fn type_text(image: &[u8], kana: &[u8], text: &[u8]) {
