@@ -20,7 +20,7 @@ use Rattle.lxtr_laws.specs.Limit.{length_fits_byte}
 use Rattle.lxtr_laws.specs.RefusalChains.{stands}
 use Rattle.lxtr_laws.specs.Cases.{value_there}
 use Rattle.lxtr_laws.specs.SearchReturns.{lookup_refused, lookup_passed}
-use Rattle.lxtr_search.specs.Kept.{longest_bytes, longest_limit}
+use Rattle.lxtr_search.specs.Longest.{longest_bytes, longest_limit}
 use Rattle.lxtr_spec.specs.Refusals.{Verdict}
 use Rattle.lxtr_spec.specs.declared.Fault.{Fault}
 use Rattle.lxtr_spec.specs.declared.Highest.{Highest}

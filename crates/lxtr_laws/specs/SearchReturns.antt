@@ -1,6 +1,8 @@
 -- The searches as the code makes them: first the refusals, then the definition's answer.
-use Rattle.std.specs.Prelude.{ℕ, ◌*◌, ◌%◌, ◌≡◌, refl, ◌↔◌, length, take, Option}
-use Rattle.std.proofs.Math.Path.{sym}
+use Rattle.std.specs.Prelude.{ℕ, ◌*◌, ◌%◌, ◌≡◌, refl, ◌↔◌, length, take, Option, Result, Err}
+use Rattle.std.proofs.Math.Path.{sym, ap}
+use Rattle.std.specs.Result.{IsErrAnd}
+use Rattle.std.proofs.lemmas.Result.{err_from_is_err_and}
 use Rattle.std.proofs.Common.{◌∙◌}
 use mathlib.Core.List.{List, []}
 use borrow.Author.Tests.{ne_eqb}
@@ -19,6 +21,10 @@ use Rattle.lxtr_laws.specs.Passed.{Passed, header_passed}
 pub query_passes : (q : List ℕ) → (query_refusal q ≡ 0) ↔ (length q % 4 ≡ 0)
 unfolding query_refusal
 query_passes q = simp (none_refused, tests) (λ p. p.0, λ e. (e, refl))
+
+-- the exit of a `?` passes the error on
+pub passed_err : {A E : Type 0} (r : Result A E) (e : E) → IsErrAnd r (λ y. y ≡ e) → r ≡ Err e
+passed_err r e h = let p = err_from_is_err_and r h in p.1 ∙ ap Err p.2
 
 -- r is the refusal that a call answered
 module _ (b q : List ℕ) (r : ℕ) where

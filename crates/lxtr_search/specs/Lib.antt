@@ -1,5 +1,5 @@
--- What the code of the searches computes, test by test and turn by turn. A reader of its contracts meets only the definitions
--- that open Kept, in private functions of `matches`.
-pub mod CaseReturns
+-- The matches of a query, the longest of them, and what the answers of the searches mean. A reader of its contracts meets Answers, and
+-- in `matches` the definitions of Matches.
 pub mod Matches
-pub mod Kept
+pub mod Longest
+pub mod Answers

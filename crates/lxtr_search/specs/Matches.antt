@@ -1,88 +1,180 @@
--- The prefixes of a query that have a value, as one walk finds them: `matches_to b q i` are those of lengths up to i.
--- Each slot on the way adds its own match. If the walk stops, no prefix beyond that point has a value.
-use Rattle.std.specs.Prelude.{ℕ, ◌+◌, ◌-◌, ◌≤◌, ◌<◌, ◌≡◌, get_or, take, Option, Some, None}
-use Rattle.std.proofs.Math.Path.{sym, ap}
-use Rattle.std.proofs.Common.{◌∙◌, zero-add, add-one, length-take, get_or-take}
-use mathlib.Core.List.{List, ◌++◌, append-nil}
-use native.Mathlib.Omega.{arith}
-use Rattle.std.proofs.Math.ListN.{length}
+-- The prefixes of a query that have a value, as one walk finds them: each slot on the way adds its own match. If the walk stops, no
+-- longer prefix has a value.
+use Rattle.std.specs.Prelude.{ℕ, Bool, true, false, ltb, suc, ◌+◌, ◌*◌, ◌-◌, min, ◌<◌, ◌≤◌, ◌≡◌, refl, List, [], ◌∷◌, ◌++◌, map, length, take, set, replicate, Option, Some, None, MatchOption, IfSome}
+use Rattle.std.proofs.Common.{sym, ap, ◌∙◌, arith, le_refl, append-nil, append_assoc, length-append, length-set, take_all, length-take}
+use Rattle.std.proofs.lemmas.List.{map-append, take-append-le, take_more_set, length-take-le, length-replicate}
+use Rattle.std.proofs.Math.Seq.{set-append_seam}
+use native.Mathlib.Nat.{sub-zero}
+use borrow.Author.Tests.{ltb-true, ltb-false}
 use Rattle.lxtr_spec.specs.Ranges.{concat_from}
-use Rattle.lxtr_spec.specs.Labels.{max_labels, labels_of}
+use Rattle.lxtr_spec.specs.Labels.{max_labels, length_count, labels_of}
 use Rattle.lxtr_spec.specs.Image.{slot_count}
-use Rattle.lxtr_spec.specs.Walks.{step_by, value_at, value_reached, value_of}
+use Rattle.lxtr_spec.specs.Walks.{step_by, walk, value_at, value_reached, value_of}
 use Rattle.lxtr_spec.specs.Searches.{length_match, match_at, matches, prefix_matches}
-use Rattle.lxtr_laws.specs.RangeTests.{concat_more, concat_none, concat_length}
-use Rattle.lxtr_laws.specs.Walking.{Walked, walked_next, walked_stop}
+use Rattle.lxtr_spec.specs.declared.Match.{Match}
+use Rattle.lxtr_laws.specs.RangeTests.{more}
+use Rattle.lxtr_laws.specs.StepFacts.{none_not_some}
+use Rattle.lxtr_laws.specs.QueryLabels.{label_count_lem, front_labels}
+
+abbrev pub pair_of : Match → ℕ × ℕ
+pair_of m = (m.length, m.value)
+
+-- the match of length k, if there is a value
+unfoldable pub match_of : ℕ → Option ℕ → List Match
+match_of k None = []
+match_of k (Some v) = record { length = k; value = v } ∷ []
+
+-- the slot that a walk reaches from this slot, if any, by the next label, if any
+abbrev pub slot_after : List ℕ → Option ℕ → Option ℕ → Option ℕ
+slot_after b None l = None
+slot_after b (Some n) None = None
+slot_after b (Some n) (Some x) = step_by b n x
+
+-- the matches of a walk that has reached this slot, if any, by k labels, and has the labels xs left
+unfoldable pub matches_on : List ℕ → Option ℕ → ℕ → List ℕ → List Match
+matches_on b None k xs = []
+matches_on b (Some n) k [] = match_of k (value_at b n)
+matches_on b (Some n) k (x ∷ xs) = match_of k (value_at b n) ++ matches_on b (step_by b n x) (k + 1) xs
 
 -- the labels of a query that count
 abbrev pub counted : List ℕ → List ℕ
 counted q = take max_labels (labels_of q)
 
-abbrev pub matches_to : List ℕ → List ℕ → ℕ → List (ℕ × ℕ)
-matches_to b q i = concat_from (i + 1) 0 (match_at (value_of b) (counted q))
+-- the matches of a query
+unfoldable pub all_matches : List ℕ → List ℕ → List Match
+all_matches b q = matches_on b (Some 1) 0 (counted q)
 
--- how many labels count; m is the number of all labels
-module _ (q : List ℕ) (m : ℕ) (count : m ≡ length (labels_of q)) where
-  pub counted_all : m < max_labels → m ≡ length (counted q)
-  counted_all h = omega (arith, length-take max_labels (labels_of q))
+-- a place that is not used
+abbrev pub no_match : Match
+no_match = record { length = 0; value = 0 }
 
-  pub counted_most : max_labels ≤ m → max_labels ≡ length (counted q)
-  counted_most h = omega (arith, length-take max_labels (labels_of q))
+-- the first n places are used
+pub record Filled (n : ℕ) (places : List Match) : Type 0 where
+  pub within : n ≤ length_count
+  pub all : length places ≡ length_count
+  pub unused : places ≡ take n places ++ replicate (length_count - n) no_match
 
-one_match_lem : (k : ℕ) (o : Option ℕ) → length (length_match k o) ≤ 1
-unfolding length_match
-one_match_lem k None = omega arith
-one_match_lem k (Some v) = omega arith
+one_pair : (k : ℕ) (o : Option ℕ) → map pair_of (match_of k o) ≡ length_match k o
+unfolding match_of length_match
+one_pair k None = refl
+one_pair k (Some v) = refl
+
+module _ (b : List ℕ) where
+  one_label : (o : Option ℕ) (x : ℕ) (f : ℕ → Option ℕ) → f ≡ (λ t. Some t) → elim o as (λ _. Option ℕ) [ None ↦ None | Some t ↦ f t ] ≡ o
+  one_label None x f e = refl
+  one_label (Some t) x f e = rw e
+
+  later_labels : (o : Option ℕ) (x : ℕ) (f g : ℕ → Option ℕ) → ((t : ℕ) → f t ≡ slot_after b (g t) (Some x))
+      → elim o as (λ _. Option ℕ) [ None ↦ None | Some t ↦ f t ] ≡ slot_after b (elim o as (λ _. Option ℕ) [ None ↦ None | Some t ↦ g t ]) (Some x)
+  later_labels None x f g h = refl
+  later_labels (Some t) x f g h = h t
+
+  walk_longer : (n : ℕ) (ys : List ℕ) (x : ℕ) → walk b n (ys ++ x ∷ []) ≡ slot_after b (walk b n ys) (Some x)
+  unfolding walk
+  walk_longer n [] x = one_label (step_by b n x) x (λ t. Some t) refl
+  walk_longer n (y ∷ ys) x = later_labels (step_by b n y) x (λ t. walk b t (ys ++ x ∷ [])) (λ t. walk b t ys) (λ t. walk_longer t ys x)
+
+  at_end : (k : ℕ) (o : Option ℕ) → map pair_of (matches_on b o k []) ≡ length_match k (value_reached b o)
+  unfolding matches_on value_reached length_match
+  at_end k None = refl
+  at_end k (Some n) = one_pair k (value_at b n)
+
+  at_label : (k : ℕ) (o : Option ℕ) (x : ℕ) (xs : List ℕ) → map pair_of (matches_on b o k (x ∷ xs)) ≡ length_match k (value_reached b o) ++ map pair_of (matches_on b (slot_after b o (Some x)) (k + 1) xs)
+  unfolding matches_on value_reached length_match
+  at_label k None x xs = refl
+  at_label k (Some n) x xs = rw (map-append, one_pair)
+
+  -- the matches of a walk that has reached what the labels ys reach, with the labels xs left
+  on_pairs : (ys xs : List ℕ) → map pair_of (matches_on b (walk b 1 ys) (length ys) xs) ≡ concat_from (length xs + 1) (length ys) (match_at (value_of b) (ys ++ xs))
+  unfolding concat_from match_at value_of
+  on_pairs ys [] = rw (append-nil ys, take_all (length ys) ys (le_refl (length ys)), append-nil (length_match (length ys) (value_reached b (walk b 1 ys)))) (at_end (length ys) (walk b 1 ys))
+  on_pairs ys (x ∷ xs) =
+      let more : length (x ∷ xs) + 1 ≡ suc (length xs + 1) = omega arith in
+      let count : length (ys ++ x ∷ []) ≡ length ys + 1 = omega (arith, length-append ys (x ∷ [])) in
+      let front : take (length ys) (ys ++ x ∷ xs) ≡ ys = take-append-le (length ys) ys (x ∷ xs) (le_refl (length ys)) ∙ take_all (length ys) ys (le_refl (length ys)) in
+      let rest = rw (walk_longer 1 ys x, count, append_assoc) at (on_pairs (ys ++ x ∷ []) xs) in
+      rw (at_label, more, front, rest)
 
 module _ (b q : List ℕ) where
-  pub match_count : (i : ℕ) → length (matches_to b q i) ≤ i + 1
-  unfolding match_at
-  match_count i = concat_length (match_at (value_of b) (counted q)) (i + 1) 0 (λ k. one_match_lem k (value_of b (take k (counted q))))
+  pub all_pairs : map pair_of (all_matches b q) ≡ prefix_matches b q
+  unfolding all_matches prefix_matches matches walk
+  all_pairs = on_pairs b [] (counted q)
 
-  match_here : (i n : ℕ) → Walked b (counted q) i n → match_at (value_of b) (counted q) i ≡ length_match i (value_at b n)
-  unfolding match_at value_of value_reached
-  match_here i n w = rw w.reached
+-- a turn of the loop: l is the next label, if any, ys are the labels after it, and s is the slot that is reached then
+module _ (b : List ℕ) (n k : ℕ) (xs ys : List ℕ) where
+  turn_by : (l : Option ℕ) → MatchOption l ((xs ≡ []) × (ys ≡ [])) (λ x. xs ≡ x ∷ ys) → matches_on b (Some n) k xs ≡ match_of k (value_at b n) ++ matches_on b (slot_after b (Some n) l) (k + 1) ys
+  unfolding matches_on
+  turn_by None h = rw (h.0, append-nil)
+  turn_by (Some x) h = rw h
 
-  pub matches_start : Walked b (counted q) 0 1 → matches_to b q 0 ≡ length_match 0 (value_at b 1)
-  unfolding concat_from
-  matches_start w = append-nil (match_at (value_of b) (counted q) 0) ∙ match_here 0 1 w
+  module _ (all : List Match) (l s v : Option ℕ) (before : matches_on b (Some n) k xs ≡ all) (next : MatchOption l ((xs ≡ []) × (ys ≡ [])) (λ x. xs ≡ x ∷ ys)) (slot : s ≡ slot_after b (Some n) l) (value : v ≡ value_at b n) where
+    pub turn_found : (w : ℕ) → v ≡ Some w → all ≡ record { length = k; value = w } ∷ matches_on b s (k + 1) ys
+    unfolding match_of
+    turn_found w e = rw (slot, ← before, turn_by l next, ← value, e)
 
-  pub matches_next : (i t : ℕ) → Walked b (counted q) (i + 1) t → matches_to b q (i + 1) ≡ matches_to b q i ++ length_match (i + 1) (value_at b t)
-  matches_next i t w =
-      let f = match_at (value_of b) (counted q) in
-      ap (λ (k : ℕ). concat_from k 0 f) (add-one (i + 1)) ∙ concat_more f (i + 1) 0 ∙ ap (λ (l : List (ℕ × ℕ)). matches_to b q i ++ l) (rw zero-add (match_here (i + 1) t w))
+    pub turn_passed : v ≡ None → matches_on b s (k + 1) ys ≡ all
+    unfolding match_of
+    turn_passed e = rw (slot, ← before, turn_by l next, ← value, e)
 
-  module _ (m i n : ℕ) (count : m ≡ length (counted q)) (w : Walked b (counted q) i n) where
-    pub counted_place : i < m → i < length (labels_of q)
-    counted_place h = omega (arith, length-take max_labels (labels_of q))
+  -- and what the next turn needs of the walk
+  pub turn_fits : (l s : Option ℕ) (m : ℕ) → MatchOption l ((xs ≡ []) × (ys ≡ [])) (λ x. xs ≡ x ∷ ys) → s ≡ slot_after b (Some n) l → IfSome s (λ t. t < slot_count b) → k + length xs ≤ m
+      → IfSome s (λ t. (t < slot_count b) × (k + 1 + length ys ≤ m))
+  turn_fits None None m h e below fits = tt
+  turn_fits None (Some t) m h e below fits = absurd (none_not_some (sym e))
+  turn_fits (Some x) None m h e below fits = tt
+  turn_fits (Some x) (Some t) m h e below fits = (below, omega (arith, ap length h))
 
-    -- f is what the step by the next label x answered
-    module _ (x : ℕ) (f : Option ℕ) (turn : i < m) (label : x ≡ get_or (labels_of q) i 0) (answer : f ≡ step_by b n x) where
-      same_label_lem : x ≡ get_or (counted q) i 0
-      same_label_lem = label ∙ sym (get_or-take max_labels (labels_of q) i 0 (omega (arith, length-take max_labels (labels_of q))))
+at_most_one : (k : ℕ) (o : Option ℕ) → length (match_of k o) ≤ 1
+unfolding match_of
+at_most_one k None = omega arith
+at_most_one k (Some v) = omega arith
 
-      pub counted_next : (t : ℕ) → f ≡ Some t → Walked b (counted q) (i + 1) t
-      counted_next = walked_next b (counted q) m i n count w x f turn same_label_lem answer
+pub on_count : (b : List ℕ) (o : Option ℕ) (k : ℕ) (xs : List ℕ) → length (matches_on b o k xs) ≤ length xs + 1
+unfolding matches_on
+on_count b None k xs = omega arith
+on_count b (Some n) k [] = at_most_one k (value_at b n)
+on_count b (Some n) k (x ∷ xs) = simp length-append (omega (arith, at_most_one k (value_at b n), on_count b (step_by b n x) (k + 1) xs))
 
-      pub counted_below : (t : ℕ) → f ≡ Some t → t < slot_count b
-      counted_below t h = (counted_next t h).below
+-- no place is used
+pub filled_none : Filled 0 (replicate length_count no_match)
+filled_none = record { within = omega arith; all = length-replicate length_count no_match; unused = rw (sub-zero length_count) }
 
-      stopped : f ≡ None → matches_to b q i ≡ prefix_matches b q
-      unfolding prefix_matches matches match_at value_of value_reached length_match
-      stopped r =
-          let g = match_at (value_of b) (counted q) in
-          let e : i + 1 + (length (counted q) - i) ≡ length (counted q) + 1 = omega arith in
-          sym (concat_none g (i + 1) (length (counted q) - i) 0 (λ k h. rw (walked_stop b (counted q) m i n count w x f turn same_label_lem answer r (0 + k) (omega arith))))
-          ∙ ap (λ (k : ℕ). concat_from k 0 g) e
+-- one more place is used
+module _ (n : ℕ) (places : List Match) (m : Match) (room : n < length_count) (f : Filled n places) where
+  pub used : length (take n places) ≡ n
+  used = length-take-le n places (omega arith)
 
-    ended : m ≤ i → matches_to b q i ≡ prefix_matches b q
-    unfolding prefix_matches matches
-    ended h = let e : i ≡ length (counted q) = omega (arith, w.so_far) in rw e
+  next_place : set places n m ≡ take n places ++ m ∷ replicate (length_count - (n + 1)) no_match
+  next_place =
+      ap (λ (l : List Match). set l n m) (rw (more length_count n room) at f.unused)
+      ∙ ap (λ (i : ℕ). set (take n places ++ no_match ∷ replicate (length_count - (n + 1)) no_match) i m) (sym used)
+      ∙ set-append_seam (take n places) _ _ m
 
--- what is kept of the matches so far is then what is kept of all
-module _ {A : Type 0} (keep : List (ℕ × ℕ) → A) (b q : List ℕ) (m i n : ℕ) (a : A) (count : m ≡ length (counted q)) (w : Walked b (counted q) i n) (kept : a ≡ keep (matches_to b q i)) where
-  pub kept_stop : (x : ℕ) (f : Option ℕ) → i < m → x ≡ get_or (labels_of q) i 0 → f ≡ step_by b n x → f ≡ None → a ≡ keep (prefix_matches b q)
-  kept_stop x f turn label answer h = kept ∙ ap keep (stopped b q m i n count w x f turn label answer h)
+  pub filled_take : take (n + 1) (set places n m) ≡ take n places ++ m ∷ []
+  filled_take = take_more_set places n m (omega arith)
 
-  pub kept_end : m ≤ i → a ≡ keep (prefix_matches b q)
-  kept_end h = kept ∙ ap keep (ended b q m i n count w h)
+  pub filled_more : Filled (n + 1) (set places n m)
+  filled_more = record { within = omega arith; all = length-set places n m ∙ f.all; unused = rw filled_take (next_place ∙ sym (append_assoc (take n places) (m ∷ []) (replicate (length_count - (n + 1)) no_match))) }
+
+-- how many places are used
+pub used_count : (n : ℕ) (places : List Match) → Filled n places → length (take n places) ≡ n
+used_count n places f = length-take-le n places (omega arith)
+
+-- the labels that count are those of the front part of the query
+module _ (q : List ℕ) (e : ℕ) (end : e ≡ min (length q) (4 * max_labels)) where
+  pub counted_front : labels_of (take e q) ≡ counted q
+  counted_front = go (ltb (4 * max_labels) (length q)) refl
+    where
+      go : (long : Bool) → ltb (4 * max_labels) (length q) ≡ long → labels_of (take e q) ≡ counted q
+      go true l = let same : e ≡ 4 * max_labels = omega (arith, ltb-true (4 * max_labels) (length q) l) in rw same (front_labels q max_labels (omega (arith, ltb-true (4 * max_labels) (length q) l)))
+      go false l =
+          let few = ltb-false (4 * max_labels) (length q) l in
+          let same : e ≡ length q = omega arith in
+          rw (same, take_all (length q) q (le_refl (length q)), take_all max_labels (labels_of q) (omega (arith, label_count_lem q)))
+
+  pub counted_few : length (labels_of (take e q)) ≤ max_labels
+  counted_few = rw counted_front (omega (arith, length-take max_labels (labels_of q)))
+
+-- there are no more matches than possible lengths
+pub on_limit : (b : List ℕ) (o : Option ℕ) (xs : List ℕ) → length xs ≤ max_labels → length (matches_on b o 0 xs) ≤ length_count
+on_limit b o xs h = omega (arith, on_count b o 0 xs)

@@ -1,56 +1,44 @@
 // The four cases of a lookup: which one a slot has, and what each says.
-ghost use Rattle.std.specs.Prelude.{◌≡◌};
+ghost use Rattle.std.specs.Prelude.{◌≡◌, ◌<◌, IfSome};
+ghost use Rattle.lxtr_spec.specs.Image.{slot_count};
 ghost use Rattle.lxtr_spec.specs.Searches.{case_value, case_longer, case_at};
-ghost use Rattle.lxtr_laws.specs.Passed.{Passed};
-ghost use Rattle.lxtr_laws.specs.Walking.{IsSlot};
 
-use lxtr_spec::{Case, Lookup};
+use lxtr_image::Image;
+use lxtr_spec::Case;
 use lxtr_walk::{longer_at, value_at};
 
 // The case at the slot that a walk reached; nothing, if it reached none.
-pub fn case_at(image: &[u8], slot: Option<u32>) -> Case
-    requires passed { Passed image.now }
-    requires slot { IsSlot image.now slot }
+#[tactic(auto, unfolding(lxtr_spec::specs::Searches::case_at, lxtr_spec::specs::Searches::case_of))]
+pub fn case_at(image: &Image, slot: Option<u32>) -> Case
+    requires { IfSome slot (λ n. n < slot_count image.now) }
     ensures { result ≡ case_at image.now slot }
 {
     let Some(n) = slot else {
         return Case::Neither;
     };
-    let longer = longer_at(image, n);
-    let Some(value) = value_at(image, n) else {
-        if longer {
-            return Case::PrefixOnly;
-        }
-        return Case::Neither;
-    };
-    if longer {
-        return Case::ExactAndPrefix(value);
-    }
-    Case::ExactOnly(value)
-}
-
-// The value that a lookup found, or none.
-pub fn found_value(answer: Lookup) -> Found
-    ensures { result ≡ case_value answer.case }
-{
-    let case = answer.case;
-    match case {
-        Case::Neither => None,
-        Case::PrefixOnly => None,
-        Case::ExactOnly(v) => Some(v),
-        Case::ExactAndPrefix(v) => Some(v),
+    match (value_at(image, n), longer_at(image, n)) {
+        (None, false) => Case::Neither,
+        (None, true) => Case::PrefixOnly,
+        (Some(v), false) => Case::ExactOnly(v),
+        (Some(v), true) => Case::ExactAndPrefix(v),
     }
 }
 
-// Whether a lookup found longer keys.
-pub fn has_longer(answer: Lookup) -> bool
-    ensures { result ≡ case_longer answer.case }
+// The value of a case, or none.
+#[tactic(auto, unfolding(lxtr_spec::specs::Searches::case_value))]
+pub fn value(case: Case) -> Option<u32>
+    ensures { result ≡ case_value case }
 {
-    let case = answer.case;
     match case {
-        Case::Neither => false,
-        Case::PrefixOnly => true,
-        Case::ExactOnly(_) => false,
-        Case::ExactAndPrefix(_) => true,
+        Case::Neither | Case::PrefixOnly => None,
+        Case::ExactOnly(v) | Case::ExactAndPrefix(v) => Some(v),
     }
+}
+
+// Whether longer keys exist in a case.
+#[tactic(auto, unfolding(lxtr_spec::specs::Searches::case_longer))]
+pub fn has_longer(case: Case) -> bool
+    ensures { result ≡ case_longer case }
+{
+    matches!(case, Case::PrefixOnly | Case::ExactAndPrefix(_))
 }

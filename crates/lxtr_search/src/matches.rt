@@ -1,119 +1,144 @@
 // The prefixes of a query that have a value. One walk finds them all, because it passes the slot of each prefix.
-ghost use Rattle.std.specs.Prelude.{◌≡◌, ◌<◌, [], length, take};
-ghost use Rattle.lxtr_spec.specs.Labels.{max_labels, length_count, labels_of};
-ghost use Rattle.lxtr_spec.specs.Searches.{prefix_matches, prefixes_answer, prefixes_of, last_length};
-ghost use Rattle.lxtr_laws.specs.Passed.{Passed};
-ghost use Rattle.lxtr_search.specs.Kept.{filled, with_match, later_length};
+ghost use Rattle.std.specs.Prelude.{◌≡◌, ◌<◌, ◌≤◌, ◌-◌, ◌∷◌, ◌++◌, [], length, replicate, Some, IfSome};
+ghost use Rattle.std.specs.Iterator.{YieldsFirst, item_count};
+ghost use Rattle.lxtr_spec.specs.Labels.{length_count};
+ghost use Rattle.lxtr_spec.specs.Image.{slot_count};
+ghost use Rattle.lxtr_search.specs.Matches.{slot_after, all_matches, no_match};
 
-use lxtr_bytes::labels::{label_at, label_count};
-use lxtr_spec::{LENGTH_COUNT, MAX_LABELS};
-use lxtr_walk::{search_refusal, step_by, value_at};
+use lxtr_bytes::labels::Labels;
+use lxtr_image::Image;
+use lxtr_spec::{LENGTH_COUNT, MAX_LABELS, Match};
+use lxtr_walk::{step_by, value_at};
+use std::marker::Model;
 
-// How many labels of a query count: at most MAX_LABELS.
-fn counted_labels(query: &[u8]) -> u32
-    ensures { result ≡ length (take max_labels (labels_of query.now)) }
+// The matches of a query, one after the other, shortest first; in a contract they are the list of those that are left.
+#[derive(Drop)]
+pub(crate) struct Matches<'a> {
+    image: Image<'a>,
+    slot: Option<u32>,
+    walked: u32,
+    labels: Labels<'a>,
+}
+
+impl<'a> Model for Matches<'a> {
+    ghost use Rattle.std.specs.Prelude.{List, ◌+◌, ◌<◌, ◌≤◌, IfSome, length};
+    ghost use Rattle.lxtr_spec.specs.declared.Match.{Match};
+    ghost use Rattle.lxtr_spec.specs.Labels.{max_labels};
+    ghost use Rattle.lxtr_spec.specs.Image.{slot_count};
+    ghost use Rattle.lxtr_search.specs.Matches.{matches_on};
+
+    ghost Value = { List Match };
+
+    // The first `walked` labels of the query reach the slot, if there is one; `labels` are those after them.
+    ghost view = { λ s. matches_on s.image s.slot s.walked s.labels };
+
+    ghost invariant = { λ s. IfSome s.slot (λ n. (n < slot_count s.image) × (s.walked + length s.labels ≤ max_labels)) };
+}
+
+// The slot after one more label, if the walk goes on.
+#[tactic(auto, unfolding(crate::specs::Matches::slot_after))]
+fn after(image: &Image, n: u32, label: Option<u32>) -> Option<u32>
+    requires { n < slot_count image.now }
+    ensures value { result ≡ slot_after image.now (Some n) label }
+    ensures below { IfSome result (λ t. t < slot_count image.now) }
 {
-    let count = label_count(query);
-    if count < MAX_LABELS {
-        count as u32
-    } else {
-        MAX_LABELS as u32
+    step_by(image, n, label?)
+}
+
+impl<'a> Iterator for Matches<'a> {
+    type Item = Match;
+
+    ghost next_gives = { YieldsFirst (λ s. s) };
+
+    ghost remaining = { item_count (λ s. s) };
+
+    fn next(&mut self) -> Option<Match> {
+        while let Some(n) = self.slot {
+            let length = self.walked;
+            let label = self.labels.next();
+            self.slot = after(&self.image, n, label);
+            self.walked += 1;
+            if let Some(value) = value_at(&self.image, n) {
+                return Some(Match { length, value });
+            }
+        }
+        None
     }
 }
 
-// Appends a match of length k to the first `count` matches, if there is a value. Returns the new count.
-fn put_match(
-    lengths: &mut [u32; LENGTH_COUNT],
-    values: &mut [u32; LENGTH_COUNT],
-    count: u32,
-    k: u32,
-    value: Option<u32>,
-) -> u32
-    requires { count < length_count }
-    ensures { filled result lengths.new values.new ≡ with_match (filled count lengths.old values.old) k value }
-{
-    let Some(v) = value else {
-        return count;
-    };
-    lengths[count as usize] = k;
-    values[count as usize] = v;
-    count + 1
-}
-
-// Writes all prefixes that have a value, shortest first, into arrays that hold zeros. Returns how many there are.
-fn put_matches(
-    image: &[u8],
-    query: &[u8],
-    lengths: &mut [u32; LENGTH_COUNT],
-    values: &mut [u32; LENGTH_COUNT],
-) -> u32
-    requires passed { Passed image.now }
-    requires values_value { filled 0 lengths.old values.old ≡ prefixes_answer 0 [] }
-    ensures { filled result lengths.new values.new ≡ prefixes_answer 0 (prefix_matches image.now query.now) }
-{
-    let labels = counted_labels(query);
-    let mut count = put_match(lengths, values, 0, 0, value_at(image, 1));
-    let mut n: u32 = 1;
-    let mut i: u32 = 0;
-    while i < labels {
-        let Some(t) = step_by(image, n, label_at(query, i as usize)) else {
-            break;
-        };
-        let length = i + 1;
-        count = put_match(lengths, values, count, length, value_at(image, t));
-        n = t;
-        i = length;
-    }
-    count
-}
-
-// What `prefixes` does, but with lent arrays. Returns the number of matches, and sets `refusal` to the refusal, or to 0.
-pub fn put_prefixes(
-    image: &[u8],
-    query: &[u8],
-    lengths: &mut [u32; LENGTH_COUNT],
-    values: &mut [u32; LENGTH_COUNT],
-    refusal: &mut u8,
-) -> u32
-    ensures { record { refusal = refusal.new; count = result; lengths = lengths.new; values = values.new } ≡ prefixes_of image.now query.now }
-{
-    *lengths = [0u32; LENGTH_COUNT];
-    *values = [0u32; LENGTH_COUNT];
-    let number = search_refusal(image, query);
-    *refusal = number;
-    if number != 0 {
-        return 0;
-    }
-    put_matches(image, query, lengths, values)
-}
-
-// Length k if there is a value at it, otherwise the length before.
-fn later_length(before: u32, k: u32, value: Option<u32>) -> u32
-    ensures { result ≡ later_length before k value }
-{
-    match value {
-        Some(_) => k,
-        None => before,
+impl<'a> Matches<'a> {
+    // All matches of a query. Only its first MAX_LABELS labels count.
+    pub(crate) fn of(image: Image<'a>, query: &'a [u8]) -> Self
+        ensures value { result ≡ all_matches image.entry query.now }
+        ensures limit { length result ≤ length_count }
+    {
+        let end = query.len().min(4 * MAX_LABELS);
+        let labels = Labels::of(&query[..end]);
+        let slot = Some(image.root());
+        Matches {
+            image,
+            slot,
+            walked: 0,
+            labels,
+        }
     }
 }
 
-// The length of the longest prefix that has a value; 0 if there is none.
-pub fn longest_match(image: &[u8], query: &[u8]) -> u32
-    requires { Passed image.now }
-    ensures { result ≡ last_length (prefix_matches image.now query.now) }
-{
-    let labels = counted_labels(query);
-    let mut longest: u32 = 0;
-    let mut n: u32 = 1;
-    let mut i: u32 = 0;
-    while i < labels {
-        let Some(t) = step_by(image, n, label_at(query, i as usize)) else {
-            break;
-        };
-        let length = i + 1;
-        longest = later_length(longest, length, value_at(image, t));
-        n = t;
-        i = length;
+// The matches that `prefixes` found; in a contract they are their list. There is a place for each possible length, and the places that
+// are not used are zero.
+#[derive(Drop)]
+pub struct Prefixes {
+    count: usize,
+    matches: [Match; LENGTH_COUNT],
+}
+
+impl Model for Prefixes {
+    ghost use Rattle.std.specs.Prelude.{List, take};
+    ghost use Rattle.lxtr_spec.specs.declared.Match.{Match};
+    ghost use Rattle.lxtr_search.specs.Matches.{Filled};
+
+    ghost Value = { List Match };
+
+    ghost view = { λ s. take s.count s.matches };
+
+    ghost invariant = { λ s. Filled s.count s.matches };
+}
+
+impl Prefixes {
+    // No matches.
+    pub(crate) fn new() -> Self
+        ensures { result ≡ [] }
+    {
+        Prefixes {
+            count: 0,
+            matches: [Match {
+                length: 0,
+                value: 0,
+            }; LENGTH_COUNT],
+        }
     }
-    longest
+
+    // Appends a match.
+    pub(crate) fn push(&mut self, m: Match)
+        requires { length self.old < length_count }
+        ensures { self.new ≡ self.old ++ m ∷ [] }
+    {
+        self.matches[self.count] = m;
+        self.count += 1;
+    }
+
+    pub fn as_slice(&self) -> &[Match]
+        ensures value { result.now ≡ self.now }
+        ensures limit { length self.now ≤ length_count }
+    {
+        &self.matches[..self.count]
+    }
+
+    // The places, of which those that are not used are zero.
+    pub fn places(&self) -> &[Match; LENGTH_COUNT]
+        ensures value { result.now ≡ self.now ++ replicate (length_count - length self.now) no_match }
+        ensures limit { length self.now ≤ length_count }
+    {
+        &self.matches
+    }
 }
