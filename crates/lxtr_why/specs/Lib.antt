@@ -1,2 +1,2 @@
--- The returns of the code that finds the reason.
-pub mod ReasonReturns
+-- What the answer of the code that finds the reason means.
+pub mod Answers

@@ -3,32 +3,34 @@
 #![tactic(auto)]
 
 ghost use Rattle.std.specs.Prelude.{◌≡◌, ◌<◌};
+ghost use Rattle.lxtr_spec.specs.Answers.{refusal_of};
 ghost use Rattle.lxtr_spec.specs.Labels.{labels_of};
 ghost use Rattle.lxtr_spec.specs.Image.{slot_count};
 ghost use Rattle.lxtr_spec.specs.Walks.{value_at};
 ghost use Rattle.lxtr_spec.specs.Reasons.{ended_with, stopped_at, reason_of, why_of};
-ghost use Rattle.lxtr_laws.specs.Passed.{Passed};
+ghost use Rattle.lxtr_why.specs.Answers.{some_answer};
 
-use lxtr_bytes::labels::{label_at, label_count};
-use lxtr_image::code_map::code_of;
-use lxtr_spec::{MAX_LABELS, Reason, Why};
-use lxtr_walk::{search_refusal, step_by, value_at};
+use lxtr_bytes::labels::{Labels, label_count};
+use lxtr_image::Image;
+use lxtr_spec::refusals::Refusal;
+use lxtr_spec::{MAX_LABELS, Reason};
+use lxtr_walk::{open, step_by, value_at};
 
 // Why a walk stopped at a label, whose place in the query is i: it isn't listed, or it has no step.
-fn stopped_at(image: &[u8], i: u32, label: u32) -> Reason
-    requires { Passed image.now }
+#[tactic(auto, unfolding(lxtr_spec::specs::Reasons::stopped_at))]
+fn stopped_at(image: &Image, i: u32, label: u32) -> Reason
     ensures { result ≡ stopped_at image.now i label }
 {
-    match code_of(image, label) {
+    match image.code_of(label) {
         Some(_) => Reason::NoStep(i),
         None => Reason::NotListed(i),
     }
 }
 
 // The reason if all labels were walked, and reached slot n.
-fn ended_at(image: &[u8], n: u32) -> Reason
-    requires passed { Passed image.now }
-    requires n_bound { n < slot_count image.now }
+#[tactic(auto, unfolding(lxtr_spec::specs::Reasons::ended_with))]
+fn ended_at(image: &Image, n: u32) -> Reason
+    requires { n < slot_count image.now }
     ensures { result ≡ ended_with (value_at image.now n) }
 {
     match value_at(image, n) {
@@ -39,40 +41,26 @@ fn ended_at(image: &[u8], n: u32) -> Reason
 
 // The reason for a query that is not refused. Too long comes before walking. The code of a label is asked for again only where the walk
 // stops.
-fn reason(image: &[u8], query: &[u8]) -> Reason
-    requires { Passed image.now }
+#[tactic(auto, unfolding(lxtr_spec::specs::Labels::max_labels, lxtr_spec::specs::Reasons::reason_of, lxtr_spec::specs::Reasons::reason_from))]
+fn reason(image: &Image, query: &[u8]) -> Reason
     ensures { result ≡ reason_of image.now (labels_of query.now) }
 {
-    let count = label_count(query);
-    if MAX_LABELS < count {
+    if MAX_LABELS < label_count(query) {
         return Reason::TooLong;
     }
-    let mut n: u32 = 1;
-    let mut i: u32 = 0;
-    while (i as usize) < count {
-        let label = label_at(query, i as usize);
+    let mut n = image.root();
+    for (i, label) in Labels::of(query).enumerate() {
         let Some(t) = step_by(image, n, label) else {
-            return stopped_at(image, i, label);
+            return stopped_at(image, i as u32, label);
         };
         n = t;
-        i += 1;
     }
     ended_at(image, n)
 }
 
-// Why the query is found or not; no reason after a refusal.
-pub fn why(image: &[u8], query: &[u8]) -> Why
-    ensures { result ≡ why_of image.now query.now }
+// Why the query is found or not.
+pub fn why(image: &[u8], query: &[u8]) -> Result<Reason, Refusal>
+    ensures { record { refusal = refusal_of result; reason = some_answer result } ≡ why_of image.now query.now }
 {
-    let refusal = search_refusal(image, query);
-    if refusal != 0 {
-        return Why {
-            refusal,
-            reason: Reason::NoReason,
-        };
-    }
-    Why {
-        refusal: 0,
-        reason: reason(image, query),
-    }
+    Ok(reason(&open(image, query)?, query))
 }
