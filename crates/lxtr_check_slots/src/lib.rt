@@ -94,6 +94,7 @@ pub fn first_wrong_slot(image: &Image) -> Option<u32>
 }
 
 // The bytes of an image in which no slot is wrong.
+#[derive(Drop)]
 pub struct Slots<'a> {
     bytes: &'a [u8],
 }
@@ -126,6 +127,7 @@ impl<'a> Slots<'a> {
     // The image, and what is known of its slots.
     pub fn image(&self) -> Image<'a>
         ensures value { result ≡ self.now }
+        ensures passed { Passed self.now }
         ensures right { slots_wrong self.now ≡ false }
     {
         Image::new(self.bytes)

@@ -1,6 +1,7 @@
 -- The first number below a bound that passes a test, if there is one.
 use Rattle.std.specs.Prelude.{ℕ, ◌≤◌, ◌<◌, ◌≡◌, Bool, true, false, cond, Option, Some, None, MatchOption}
-use Rattle.std.proofs.Common.{arith, sym, ◌∙◌}
+use Rattle.std.proofs.Common.{arith, refl}
+use Rattle.std.specs.Option.{is_some}
 use Rattle.lxtr_spec.specs.Ranges.{any_below, first_below}
 use Rattle.lxtr_laws.specs.RangeTests.{any_true, any_false}
 use Rattle.lxtr_laws.specs.Firsts.{first_below_lem, one_first}
@@ -25,6 +26,15 @@ module _ (n : ℕ) (f : ℕ → Bool) where
       go : (t : Bool) → None ≡ cond t (Some (first_below n f)) None → t ≡ false
       go true e = absurd (cc)
       go false e = (cc)
+
+  -- whether there is one
+  pub some_is_any : is_some (first_in n f) ≡ any_below n f
+  unfolding first_in
+  some_is_any = go (any_below n f)
+    where
+      go : (t : Bool) → is_some (cond t (Some (first_below n f)) None) ≡ t
+      go true = refl
+      go false = refl
 
   -- which number it is
   pub is_first_in : (r : ℕ) → r < n → f r ≡ true → ((k : ℕ) → k < r → f k ≡ false) → Some r ≡ first_in n f
