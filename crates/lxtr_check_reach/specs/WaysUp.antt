@@ -74,25 +74,26 @@ module _ (b : List ℕ) (n s : ℕ) where
   ascend_start h = record { below = h; rest = refl }
 
   module _ (k at : ℕ) (w : Ascending b n s k at) where
-    -- j of the steps lead to slot p
-    pub ascend_by : (j p : ℕ) → j ≤ k → p ≡ ancestor b j at → p < slot_count b → Ascending b n s (k - j) p
-    ascend_by j p h e l =
-        let q : j + (k - j) ≡ k = omega arith in
-        record { below = l; rest = w.rest ∙ sym (ap (λ (i : ℕ). ancestor b i at) q) ∙ ancestor_sum b j (k - j) at ∙ ap (ancestor b (k - j)) (sym e) }
+    -- j of the steps lead to slot p, and r are left
+    pub ascend_by : (j r p : ℕ) → r + j ≡ k → p ≡ ancestor b j at → p < slot_count b → Ascending b n s r p
+    ascend_by j r p h e l =
+        let q : j + r ≡ k = omega arith in
+        record { below = l; rest = w.rest ∙ sym (ap (λ (i : ℕ). ancestor b i at) q) ∙ ancestor_sum b j r at ∙ ap (ancestor b r) (sym e) }
 
-    pub ascend_next : (p : ℕ) → Whole b → slots_wrong b ≡ false → 0 < k → p ≡ parent b at → Ascending b n s (k - 1) p
+    pub ascend_next : (r p : ℕ) → Whole b → slots_wrong b ≡ false → r + 1 ≡ k → p ≡ parent b at → Ascending b n s r p
     unfolding ancestor
-    ascend_next p ok right h up = ascend_by 1 p (omega arith) up (rw up (parent_slot b ok right at w.below))
+    ascend_next r p ok right h up = ascend_by 1 r p h up (rw up (parent_slot b ok right at w.below))
 
-    pub ascend_end : k ≤ 0 → at ≡ ancestor b n s
+    pub ascend_end : k ≡ 0 → at ≡ ancestor b n s
     unfolding ancestor
-    ascend_end h = let z : k ≡ 0 = omega arith in sym (rw z at w.rest)
+    ascend_end z = sym (rw z at w.rest)
 
 module _ (b : List ℕ) (s k at : ℕ) (w : Ascending b (suc length_count) s k at) (ok : Whole b) (right : slots_wrong b ≡ false) (slot : s < slot_count b) where
   pub reach_tested : (r : ℕ) → r ≡ ancestor b k at → not (eqb r 0) ≡ unreachable b s
   unfolding unreachable
   reach_tested r e = rw (e, ← w.rest) (way_up b ok right length_count s slot)
 
-  pub reach_found : (j p : ℕ) → j ≤ k → p ≡ ancestor b j at → p < slot_count b → p ≡ 0 → false ≡ unreachable b s
+  -- slot 0 is reached already
+  pub reach_found : at ≡ 0 → false ≡ unreachable b s
   unfolding unreachable
-  reach_found j p h e l z = rw ((ascend_by b (suc length_count) s k at w j p h e l).rest, z, stays b ok right (k - j)) at (way_up b ok right length_count s slot)
+  reach_found z = rw (w.rest, z, stays b ok right k) at (way_up b ok right length_count s slot)

@@ -3,15 +3,13 @@
 // then stay there. It is enough to look at the slot after STEPS steps; the single steps need no test.
 #![tactic(auto)]
 
-ghost use Rattle.std.specs.Prelude.{◌≡◌, false, ◌<◌};
-ghost use Rattle.lxtr_spec.specs.Ranges.{first_below};
+ghost use Rattle.std.specs.Prelude.{◌≡◌, ◌<◌};
 ghost use Rattle.lxtr_spec.specs.Image.{slot_count};
-ghost use Rattle.lxtr_spec.specs.Refusals.{slots_wrong, unreachable, some_unreachable};
-ghost use Rattle.lxtr_laws.specs.Passed.{Whole};
+ghost use Rattle.lxtr_spec.specs.Refusals.{unreachable};
 ghost use Rattle.lxtr_laws.specs.Facts.{ancestor};
+ghost use Rattle.lxtr_laws.specs.FirstPlaces.{first_in};
 
-use lxtr_image::nodes::parent_of;
-use lxtr_image::sections::slot_count;
+use lxtr_check_slots::Slots;
 use lxtr_spec::LENGTH_COUNT;
 
 // A slot that reaches slot 1 by LENGTH_COUNT or fewer steps reaches slot 0 by this many.
@@ -21,62 +19,38 @@ const STEPS: usize = LENGTH_COUNT + 1;
 const STRIDE: usize = 8;
 
 // The slot that this many steps to the parent reach from slot s.
-fn ancestor(image: &[u8], s: u32, steps: usize) -> u32
-    requires whole { Whole image.now }
-    requires image_value { slots_wrong image.now ≡ false }
-    requires s_bound { s < slot_count image.now }
-    ensures value { result ≡ ancestor image.now steps s }
-    ensures upper_bound { result < slot_count image.now }
+fn ancestor(slots: &Slots, s: u32, steps: usize) -> u32
+    requires { s < slot_count slots.now }
+    ensures value { result ≡ ancestor slots.now steps s }
+    ensures upper_bound { result < slot_count slots.now }
 {
+    let image = slots.image();
     let mut at = s;
-    let mut left = steps;
-    while 0 < left {
-        at = parent_of(image, at);
-        left -= 1;
+    for _ in 0..steps {
+        at = image.parent(at);
     }
     at
 }
 
 // Whether STEPS steps from slot s do not reach slot 0.
-fn unreachable(image: &[u8], s: u32) -> bool
-    requires whole { Whole image.now }
-    requires image_value { slots_wrong image.now ≡ false }
-    requires s_bound { s < slot_count image.now }
-    ensures { result ≡ unreachable image.now s }
+fn unreachable(slots: &Slots, s: u32) -> bool
+    requires { s < slot_count slots.now }
+    ensures { result ≡ unreachable slots.now s }
 {
+    let _ = slots.image(); // no slot is wrong
     let mut at = s;
-    let mut left: usize = STEPS;
-    while STRIDE <= left {
-        at = ancestor(image, at, STRIDE);
+    for _ in 0..STEPS / STRIDE {
+        at = ancestor(slots, at, STRIDE);
         if at == 0 {
             return false;
         }
-        left -= STRIDE;
     }
-    ancestor(image, at, left) != 0
+    ancestor(slots, at, STEPS % STRIDE) != 0
 }
 
-// The first slot that does not reach slot 1, or N if there is none.
-pub fn first_unreachable(image: &[u8]) -> u32
-    requires whole { Whole image.now }
-    requires image_value { slots_wrong image.now ≡ false }
-    ensures { result ≡ first_below (slot_count image.now) (unreachable image.now) }
+// The first slot that does not reach slot 1.
+pub fn first_unreachable(slots: &Slots) -> Option<u32>
+    ensures { result ≡ first_in (slot_count slots.now) (unreachable slots.now) }
 {
-    let slots = slot_count(image);
-    let mut s: u32 = 0;
-    while s < slots {
-        if unreachable(image, s) {
-            return s;
-        }
-        s += 1;
-    }
-    slots
-}
-
-pub fn some_unreachable(image: &[u8]) -> bool
-    requires whole { Whole image.now }
-    requires image_value { slots_wrong image.now ≡ false }
-    ensures { result ≡ some_unreachable image.now }
-{
-    first_unreachable(image) < slot_count(image)
+    (0..slots.image().slot_count()).find(|&s| unreachable(slots, s))
 }
