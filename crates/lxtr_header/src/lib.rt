@@ -92,10 +92,9 @@ fn offset_ends_wrong(image: &[u8]) -> bool
 
 // The first of refusals 6 to 8 that holds, for bytes that passed 1 to 5. These are a function of their own because the compiler does
 // not inline a test that follows six others.
-fn read_parts(image: &[u8]) -> Result<Image<'_>, Refusal>
+fn check_parts(image: &[u8]) -> Result<(), Refusal>
     requires { Sized image.now }
-    ensures refusal { refusal_of result ≡ refuse_if (length_wrong image.now) 6 (refuse_if (map_wrong image.now) 7 (refuse_if (offset_ends_wrong image.now) 8 0)) }
-    ensures bytes { IfOk result (λ i. i ≡ image.now) }
+    ensures { refusal_of result ≡ refuse_if (length_wrong image.now) 6 (refuse_if (map_wrong image.now) 7 (refuse_if (offset_ends_wrong image.now) 8 0)) }
 {
     if length_wrong(image) {
         return Err(Refusal::WrongImageLength);
@@ -106,7 +105,7 @@ fn read_parts(image: &[u8]) -> Result<Image<'_>, Refusal>
     if offset_ends_wrong(image) {
         return Err(Refusal::WrongOffsetEnds);
     }
-    Ok(Image::new(image))
+    Ok(())
 }
 
 // The image, or the first of refusals 1 to 8 that holds, for any bytes.
@@ -129,5 +128,6 @@ pub fn read(image: &[u8]) -> Result<Image<'_>, Refusal>
     if sizes_wrong(image) {
         return Err(Refusal::WrongSizes);
     }
-    read_parts(image)
+    check_parts(image)?;
+    Ok(Image::new(image))
 }

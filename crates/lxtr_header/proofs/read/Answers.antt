@@ -1,7 +1,9 @@
 -- Each return is a chain of faults that are not there, ended by one that is or by none; after refusal 5 the sizes are known.
-use Rattle.std.proofs.Common.{arith}
+use Rattle.std.proofs.Common.{◌≡◌, ◌∙◌, sym, arith}
 use borrow.Author.Tests.{lt-ltb, le-ltb}
 use Rattle.lxtr_spec.specs.Refusals.{too_short, header_refusal}
+use Rattle.lxtr_spec.specs.Answers.{number}
+use Rattle.lxtr_laws.specs.Failures.{passed_on}
 use Rattle.lxtr_laws.specs.RefusalChains.{refused, goes_on, chain}
 use Rattle.lxtr_laws.specs.Passed.{sized_by}
 use Rattle.lxtr_header.proofs.read.Goals as goal
@@ -26,9 +28,19 @@ pub returns-then-sizes_wrong-clause-refusal : goal.returns-then-sizes_wrong-clau
 unfolding header_refusal too_short
 returns-then-sizes_wrong-clause-refusal c = search (chain, goes_on, le-ltb)
 
-pub returns-clause-refusal : goal.returns-clause-refusal
+pub returns-in_err-check_parts-clause-refusal : goal.returns-in_err-check_parts-clause-refusal
 unfolding header_refusal too_short
-returns-clause-refusal c = search (chain, goes_on, le-ltb)
+returns-in_err-check_parts-clause-refusal c =
+    let e = c.in_err-check_parts.ensures in
+    let all : number c.in_err-check_parts.field-0.0 ≡ header_refusal c.args.image.now = search (e, chain, goes_on, le-ltb) in
+    passed_on _ _ c.from_residual.ensures.1 ∙ all
 
-pub read_parts-requires : goal.read_parts-requires
-read_parts-requires c = sized_by _ (omega arith) c.sizes_wrong.ensures c.if-sizes_wrong.false
+pub new-requires : goal.new-requires
+unfolding header_refusal too_short
+new-requires c =
+    let e = c.in_ok-check_parts.ensures in
+    let all : 0 ≡ header_refusal c.args.image.now = search (e, chain, goes_on, le-ltb) in
+    sym all
+
+pub check_parts-requires : goal.check_parts-requires
+check_parts-requires c = sized_by _ (omega arith) c.sizes_wrong.ensures c.if-sizes_wrong.false
