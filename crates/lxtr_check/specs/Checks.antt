@@ -1,34 +1,33 @@
 -- The check as the code makes it. Results of calls are variables: each law says which definition equals what one return computes.
-use Rattle.std.specs.Prelude.{ℕ, ◌≡◌, ◌≢◌, List}
+use Rattle.std.specs.Prelude.{ℕ, ◌≡◌, ◌≢◌, refl, List, Result}
+use Rattle.std.specs.Result.{IsErrAnd}
 use Rattle.std.proofs.Common.{sym, ◌∙◌}
-use Rattle.lxtr_spec.specs.Refusals.{first_refusal, unless_refused, header_refusal, body_refusal, image_refusal, end_count, check_of}
-use Rattle.lxtr_spec.specs.Refusals.{Verdict}
-use Rattle.lxtr_laws.specs.RefusalChains.{first_stands, stands}
-use Rattle.lxtr_laws.specs.Passed.{Whole, Passed, header_passed}
-use Rattle.lxtr_laws.specs.Faults.{parts_pass}
+use Rattle.std.proofs.lemmas.Result.{err_from_is_err_and}
+use Rattle.lxtr_spec.specs.Refusals.{first_refusal, unless_refused, header_refusal, body_refusal, image_refusal, end_count, check_of, Verdict}
+use Rattle.lxtr_spec.specs.declared.refusals.Refusal.{Refusal}
+use Rattle.lxtr_spec.specs.Answers.{number, refusal_of, answer_or}
+use Rattle.lxtr_laws.specs.RefusalChains.{none_first, first_stands, stands}
+use Rattle.lxtr_laws.specs.Failures.{number_not_0}
 
--- the check: r is the refusal that a call answered
-module _ (b : List ℕ) (r : ℕ) where
-  module _ (header : r ≡ header_refusal b) where
-    pub header_refused : r ≢ 0 → r ≡ image_refusal b
-    unfolding image_refusal
-    header_refused h = rw (← header) (sym (first_stands r (body_refusal b) h))
+module _ (b : List ℕ) where
+  -- r is the refusal that a call answered
+  pub header_refused : (r : ℕ) → r ≡ header_refusal b → r ≢ 0 → r ≡ image_refusal b
+  unfolding image_refusal
+  header_refused r header h = rw (← header) (sym (first_stands r (body_refusal b) h))
 
-    pub header_allowed : r ≡ 0 → Passed b
-    header_allowed z = header_passed (sym header ∙ z)
+  pub body_refused : (k : ℕ) → 0 ≡ header_refusal b → k ≡ body_refusal b → k ≡ image_refusal b
+  unfolding image_refusal first_refusal
+  body_refused k z e = rw (← z) e
 
-    pub body_refused : (k : ℕ) → r ≡ 0 → k ≡ body_refusal b → k ≡ image_refusal b
-    unfolding image_refusal first_refusal
-    body_refused k z e = rw (sym header ∙ z) e
+  pub none_refused_by : header_refusal b ≡ 0 → 0 ≡ body_refusal b → image_refusal b ≡ 0
+  none_refused_by z e = sym (body_refused 0 (sym z) e)
 
-  module _ (known : r ≡ image_refusal b) where
-    pub check_refused : r ≢ 0 → ◌≡◌ {A = Verdict} (record { refusal = r; pairs = 0 }) (check_of b)
-    unfolding check_of
-    check_refused h = rw (← known, stands r (end_count b) 0 h)
+  -- the check passes on the refusal e
+  pub check_refused : (r : Result ℕ Refusal) (e : Refusal) → IsErrAnd r (λ y. y ≡ e) → number e ≡ image_refusal b
+      → ◌≡◌ {A = Verdict} (record { refusal = refusal_of r; pairs = answer_or 0 r }) (check_of b)
+  unfolding check_of
+  check_refused r e h known = let p = err_from_is_err_and r h in rw (p.1, p.2, ← known, stands (number e) (end_count b) 0 (number_not_0 e))
 
-    pub check_allowed : r ≡ 0 → Whole b
-    check_allowed z = (header_passed (parts_pass b (sym known ∙ z)).0).whole
-
-    pub check_counted : (n : ℕ) → r ≡ 0 → n ≡ end_count b → ◌≡◌ {A = Verdict} (record { refusal = 0; pairs = n }) (check_of b)
-    unfolding check_of unless_refused
-    check_counted n z e = rw (← known, z, e)
+  pub check_counted : (n : ℕ) → 0 ≡ image_refusal b → n ≡ end_count b → ◌≡◌ {A = Verdict} (record { refusal = 0; pairs = n }) (check_of b)
+  unfolding check_of unless_refused
+  check_counted n z e = rw (← z, e)

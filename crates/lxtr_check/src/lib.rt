@@ -1,87 +1,111 @@
 // Checks LXTR images: whether given bytes are an image, and of how many pairs. Each of rules 9 to 12 has a crate of its own. Any
-// caller may use `check`; `image_refusal`, `body_refusal` and `is_end` are for the crates that use this one.
+// caller may use `check`; `accept`, `AcceptedImage` and `is_end` are for the crates that use this one.
 #![tactic(auto)]
 
-ghost use Rattle.std.specs.Prelude.{◌≡◌, ◌<◌};
+ghost use Rattle.std.specs.Prelude.{◌≡◌, ◌<◌, IfOk};
 ghost use Rattle.lxtr_spec.specs.Image.{slot_count};
 ghost use Rattle.lxtr_spec.specs.Refusals.{body_refusal, image_refusal, is_end, end_count, check_of};
-ghost use Rattle.lxtr_laws.specs.Passed.{Whole, Passed};
+ghost use Rattle.lxtr_spec.specs.Answers.{refusal_of, answer_or};
+ghost use Rattle.lxtr_laws.specs.Facts.{Accepted};
 
-use lxtr_check_labels::labels_wrong;
+use lxtr_check_labels::first_wrong_label;
 use lxtr_check_lists::lists_wrong;
-use lxtr_check_reach::some_unreachable;
-use lxtr_check_slots::{is_used_from_2, slots_wrong};
-use lxtr_header::header_refusal;
-use lxtr_image::nodes::is_leaf;
-use lxtr_image::sections::slot_count;
-use lxtr_spec::Verdict;
-use lxtr_spec::refusals::{UNREACHABLE, WRONG_LABELS, WRONG_LISTS, WRONG_SLOTS};
+use lxtr_check_reach::first_unreachable;
+use lxtr_check_slots::{Slots, is_used_from_2};
+use lxtr_header::read;
+use lxtr_image::Image;
+use lxtr_spec::refusals::Refusal;
+use std::marker::Model;
 
-// The first of refusals 9 to 12 that holds, or 0, for bytes that passed 1 to 8.
-pub fn body_refusal(image: &[u8]) -> u8
-    requires { Passed image.now }
-    ensures { result ≡ body_refusal image.now }
+// The first of refusals 9 to 12 that holds.
+fn check_body(image: &Image) -> Result<(), Refusal>
+    ensures { refusal_of result ≡ body_refusal image.now }
 {
-    if labels_wrong(image) {
-        return WRONG_LABELS;
+    if first_wrong_label(image).is_some() {
+        return Err(Refusal::WrongLabels);
     }
-    if slots_wrong(image) {
-        return WRONG_SLOTS;
+    let Ok(slots) = Slots::check(image) else {
+        return Err(Refusal::WrongSlots);
+    };
+    if lists_wrong(&slots) {
+        return Err(Refusal::WrongLists);
     }
-    if lists_wrong(image) {
-        return WRONG_LISTS;
+    if first_unreachable(&slots).is_some() {
+        return Err(Refusal::Unreachable);
     }
-    if some_unreachable(image) {
-        return UNREACHABLE;
-    }
-    0
+    Ok(())
 }
 
-// The first of refusals 1 to 12 that holds, or 0.
-pub fn image_refusal(image: &[u8]) -> u8
-    ensures { result ≡ image_refusal image.now }
-{
-    let refusal = header_refusal(image);
-    if refusal != 0 {
-        return refusal;
+// The bytes of an image that no refusal refuses.
+#[derive(Drop)]
+pub struct AcceptedImage<'a> {
+    bytes: &'a [u8],
+}
+
+impl<'a> Model for AcceptedImage<'a> {
+    ghost use Rattle.std.specs.Prelude.{List, ℕ, ◌≡◌};
+    ghost use Rattle.lxtr_spec.specs.Refusals.{image_refusal};
+
+    ghost Value = { List ℕ };
+
+    ghost view = { λ a. a.bytes.now };
+
+    ghost invariant = { λ a. image_refusal a.bytes.now ≡ 0 };
+}
+
+impl<'a> AcceptedImage<'a> {
+    // The image, or the first of refusals 9 to 12 that holds.
+    pub fn check(image: &Image<'a>) -> Result<Self, Refusal>
+        ensures refusal { refusal_of result ≡ body_refusal image.now }
+        ensures bytes { IfOk result (λ a. a ≡ image.now) }
+    {
+        check_body(image)?;
+        Ok(AcceptedImage {
+            bytes: image.bytes(),
+        })
     }
-    body_refusal(image)
+
+    // The image, and what is known of it.
+    pub fn image(&self) -> Image<'a>
+        ensures value { result ≡ self.now }
+        ensures accepted { Accepted self.now }
+    {
+        Image::new(self.bytes)
+    }
+}
+
+// The image, or the first of refusals 1 to 12 that holds, for any bytes.
+pub fn accept(image: &[u8]) -> Result<AcceptedImage<'_>, Refusal>
+    ensures refusal { refusal_of result ≡ image_refusal image.now }
+    ensures bytes { IfOk result (λ a. a ≡ image.now) }
+{
+    AcceptedImage::check(&read(image)?)
 }
 
 // Whether slot s is a key's end.
-pub fn is_end(image: &[u8], s: u32) -> bool
-    requires whole { Whole image.now }
-    requires s_bound { s < slot_count image.now }
+#[tactic(auto, unfolding(lxtr_spec::specs::Refusals::is_end))]
+pub fn is_end(image: &Image, s: u32) -> bool
+    requires { s < slot_count image.now }
     ensures { result ≡ is_end image.now s }
 {
-    is_used_from_2(image, s) & is_leaf(image, s)
+    is_used_from_2(image, s) & image.is_leaf(s)
 }
 
-// The number of ends. An image has one for each pair.
-fn end_count(image: &[u8]) -> u32
-    requires { Whole image.now }
+// The number of ends. An image has one for each pair. Adds without a branch: which slots are ends is hard to predict.
+fn end_count(image: &Image) -> u32
     ensures { result ≡ end_count image.now }
 {
-    let slots = slot_count(image);
     let mut ends: u32 = 0;
-    let mut s: u32 = 0;
-    while s < slots {
+    for s in 0..image.slot_count() {
         ends += is_end(image, s) as u32;
-        s += 1;
     }
     ends
 }
 
-// The check: the number of pairs in the set of which the bytes are an image, or a refusal and 0.
-pub fn check(image: &[u8]) -> Verdict
-    ensures { result ≡ check_of image.now }
+// The check: the number of pairs in the set of which the bytes are an image, or a refusal.
+pub fn check(image: &[u8]) -> Result<u32, Refusal>
+    ensures { record { refusal = refusal_of result; pairs = answer_or 0 result } ≡ check_of image.now }
 {
-    let refusal = image_refusal(image);
-    if refusal != 0 {
-        return Verdict { refusal, pairs: 0 };
-    }
-    Verdict {
-        refusal: 0,
-        pairs: end_count(image),
-    }
+    let accepted = accept(image)?;
+    Ok(end_count(&accepted.image()))
 }

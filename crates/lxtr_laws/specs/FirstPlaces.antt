@@ -36,6 +36,10 @@ module _ (n : ℕ) (f : ℕ → Bool) where
       go true = refl
       go false = refl
 
+  -- r says whether o, the first, is there
+  pub some_below : (o : Option ℕ) (r : Bool) → o ≡ first_in n f → r ≡ is_some o → r ≡ any_below n f
+  some_below o r e h = rw (h, e) some_is_any
+
   -- which number it is
   pub is_first_in : (r : ℕ) → r < n → f r ≡ true → ((k : ℕ) → k < r → f k ≡ false) → Some r ≡ first_in n f
   unfolding first_in

@@ -1,0 +1,15 @@
+-- Each turn is one of the laws of `Tallies`.
+use Rattle.std.proofs.Common.{rules}
+use Rattle.lxtr_spec.specs.Refusals.{end_count}
+use Rattle.lxtr_laws.specs.Tallies.{count_start, count_next, count_end}
+use Rattle.lxtr_check.proofs.end_count.Goals as goal
+
+pub loop-s-init : goal.loop-s-init
+loop-s-init c = search count_start
+
+pub loop-s-preserved : goal.loop-s-preserved
+loop-s-preserved c = search (count_next, rules)
+
+pub returns : goal.returns
+unfolding end_count
+returns c = search (count_end, rules)
