@@ -2,57 +2,49 @@
 #![tactic(auto)]
 
 ghost use Rattle.std.specs.Prelude.{◌≡◌};
-ghost use Rattle.lxtr_command_spec.specs.Commands.{same_bytes, taking, later_rows, command_of};
+ghost use Rattle.lxtr_command_spec.specs.Commands.{taking, command_of};
+ghost use Rattle.lxtr_arguments.specs.Rows.{answer_in};
 
 use lxtr_command_spec::Command;
 
-fn same_bytes(a: &[u8], b: &[u8]) -> bool
-    ensures { result ≡ same_bytes a.now b.now }
-{
-    if a.len() != b.len() {
-        return false;
-    }
-    let mut i: usize = 0;
-    while i < a.len() {
-        if a[i] != b[i] {
-            return false;
-        }
-        i += 1;
-    }
-    true
-}
+// A row of the table of commands: a name, its command, and from how many to how many operands it takes.
+type Row = (&'static [u8], Command, usize, usize);
+
+const ROWS: [Row; 12] = [
+    (b"check", Command::Check, 1, 1),
+    (b"exact", Command::Exact, 2, 2),
+    (b"prefixes", Command::Prefixes, 2, 2),
+    (b"longest", Command::Longest, 2, 2),
+    (b"probe", Command::Probe, 2, 2),
+    (b"why", Command::Why, 2, 2),
+    (b"complete", Command::Complete, 1, 2),
+    (b"build", Command::Build, 2, 2),
+    (b"keys", Command::Keys, 2, 2),
+    (b"draw", Command::Draw, 1, 1),
+    (b"type", Command::TypeText, 3, 3),
+    (b"help", Command::Help, 0, 0),
+];
 
 // The command, if `count` is one of the numbers of operands that it takes; otherwise WrongOperands.
+#[tactic(auto, unfolding(lxtr_command_spec::specs::Commands::taking))]
 fn taking(command: Command, fewest: usize, most: usize, count: usize) -> Command
     ensures { result ≡ taking command fewest most count }
 {
-    if (fewest <= count) & (count <= most) {
-        return command;
+    if (fewest..=most).contains(&count) {
+        command
+    } else {
+        Command::WrongOperands
     }
-    Command::WrongOperands
 }
 
-// The rows of the table of commands from `complete` to `help`.
-fn later_rows(name: &[u8], count: usize) -> Command
-    ensures { result ≡ later_rows name.now count }
+// The answer of the first row with that name.
+fn answer_in(table: &[Row], name: &[u8], count: usize) -> Command
+    ensures { result ≡ answer_in table.now name.now count }
 {
-    if same_bytes(name, b"complete") {
-        return taking(Command::Complete, 1, 2, count);
-    }
-    if same_bytes(name, b"build") {
-        return taking(Command::Build, 2, 2, count);
-    }
-    if same_bytes(name, b"keys") {
-        return taking(Command::Keys, 2, 2, count);
-    }
-    if same_bytes(name, b"draw") {
-        return taking(Command::Draw, 1, 1, count);
-    }
-    if same_bytes(name, b"type") {
-        return taking(Command::TypeText, 3, 3, count);
-    }
-    if same_bytes(name, b"help") {
-        return taking(Command::Help, 0, 0, count);
+    for (text, command, fewest, most) in table {
+        if name == *text {
+            return taking(*command, *fewest, *most, count);
+        }
     }
     Command::Unknown
 }
@@ -61,23 +53,5 @@ fn later_rows(name: &[u8], count: usize) -> Command
 pub fn command(name: &[u8], count: usize) -> Command
     ensures { result ≡ command_of name.now count }
 {
-    if same_bytes(name, b"check") {
-        return taking(Command::Check, 1, 1, count);
-    }
-    if same_bytes(name, b"exact") {
-        return taking(Command::Exact, 2, 2, count);
-    }
-    if same_bytes(name, b"prefixes") {
-        return taking(Command::Prefixes, 2, 2, count);
-    }
-    if same_bytes(name, b"longest") {
-        return taking(Command::Longest, 2, 2, count);
-    }
-    if same_bytes(name, b"probe") {
-        return taking(Command::Probe, 2, 2, count);
-    }
-    if same_bytes(name, b"why") {
-        return taking(Command::Why, 2, 2, count);
-    }
-    later_rows(name, count)
+    answer_in(&ROWS, name, count)
 }
