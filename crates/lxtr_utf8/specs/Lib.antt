@@ -1,5 +1,5 @@
 -- What RFC 3629 says, stated of the definitions, and a table of examples; then the laws that prove this and the functions. A reader
--- of the contracts meets only, in private functions, the definitions that open Fronts and Decoding.
+-- of the contracts meets none of these.
 pub mod Rfc3629
 pub mod Utf8Examples
 pub mod Fronts
@@ -8,4 +8,3 @@ pub mod TextOrder
 pub mod Octets
 pub mod Encoded
 pub mod Decoding
-pub mod Marks

@@ -3,15 +3,14 @@ use Prim.Native.Nat.{ℕ, zero, suc, ◌-◌, ◌≤◌, ◌<◌}
 use native.Mathlib.Omega.{arith}
 use Rattle.std.proofs.Math.Decide.{dec_lt}
 use Rattle.std.proofs.Common.{le_refl, sym, ◌∙◌, ne_eqb, eqb-true, length-append}
-use Rattle.std.specs.Prelude.{◌≡◌, ◌≢◌, List, [], ◌∷◌, ◌++◌, Bool, eqb, Option, Some, None}
+use Rattle.std.specs.Prelude.{◌≡◌, List, [], ◌∷◌, ◌++◌, Bool, eqb, Option, Some, None}
 use Rattle.std.proofs.Math.Path.{refl, ap}
 use Rattle.std.proofs.Math.Bool.{true, false}
 use Rattle.std.proofs.lemmas.Bool.{false≢true}
 use Rattle.std.proofs.Math.ListN.{length, drop, length-drop}
-use Rattle.lxtr_spec.specs.Labels.{is_scalar}
 use Rattle.lxtr_laws.specs.Tests.{and_is_true}
 use Rattle.lxtr_command_spec.specs.Utf8.{utf8, front_number, begins_with, begins_right, option_cons, labels_within, labels_of_text}
-use Rattle.lxtr_utf8.specs.Fronts.{Size, one, two, three, four, size_of_lem, count_one_lem, count_two, count_three, count_four, front_length, FrontOf}
+use Rattle.lxtr_utf8.specs.Fronts.{Size, one, two, three, four, size_of_lem, count_one_lem, count_two, count_three, count_four}
 
 -- ---- what a text begins with
 
@@ -94,32 +93,3 @@ module _ (t : List ℕ) (more : 1 ≤ length t) where
   pub labels_wrong_lem : begins_right t ≡ false → labels_of_text t ≡ None
   unfolding labels_of_text
   labels_wrong_lem e = let k : length t ≡ suc (length t - 1) = omega arith in ap (λ (n : ℕ). labels_within n t) k ∙ within_none (length t - 1) t more e
-
-  -- the same, for the first character
-  module _ (x n : ℕ) (front : FrontOf t x n) where
-    pub labels_stop : n ≡ 0 → labels_of_text t ≡ None
-    unfolding front_length
-    labels_stop z = go (begins_right t) refl
-      where
-        go : (a : Bool) → begins_right t ≡ a → labels_of_text t ≡ None
-        go false e = labels_wrong_lem e
-        go true e = let s : n ≡ length (utf8 (front_number t)) = front.size ∙ rw e refl in let b = some_bytes (front_number t) in absurd (omega arith)
-
-    pub labels_next : n ≢ 0 → labels_of_text t ≡ option_cons x (labels_of_text (drop n t))
-    unfolding front_length
-    labels_next z = go (begins_right t) refl
-      where
-        go : (a : Bool) → begins_right t ≡ a → labels_of_text t ≡ option_cons x (labels_of_text (drop n t))
-        go false e = let s : n ≡ 0 = front.size ∙ rw e refl in absurd (z s)
-        go true e = let s : n ≡ length (utf8 (front_number t)) = front.size ∙ rw e refl in rw (front.is, s) (labels_right e)
-
-    pub front_within : n ≤ length t
-    unfolding front_length begins_right
-    front_within = go (begins_right t) refl
-      where
-        go : (a : Bool) → begins_right t ≡ a → n ≤ length t
-        go false e = let s : n ≡ 0 = front.size ∙ rw e refl in omega arith
-        go true e =
-            let s : n ≡ length (utf8 (front_number t)) = front.size ∙ rw e refl in
-            let r = ((and_is_true (is_scalar (front_number t)) (begins_with t (utf8 (front_number t)))).0 e).1 in
-            omega (arith, begins_length t (utf8 (front_number t)) r)
