@@ -1,5 +1,5 @@
 -- The lent work before placing, and what the code's answer after placing means.
-use Rattle.std.specs.Prelude.{ℕ, ◌≤◌, ◌≡◌, List, Bool, true, false, length, replicate, Option, Some, None}
+use Rattle.std.specs.Prelude.{ℕ, ◌≤◌, ◌≡◌, List, length, replicate, Option, Some, None}
 
 -- work of 4 words or more, all zero
 pub record Cleared (w : List ℕ) : Type 0 where
@@ -7,6 +7,6 @@ pub record Cleared (w : List ℕ) : Type 0 where
   pub zeros : w ≡ replicate (length w) 0
 
 -- what the code answers: whether each slot found a base, and the work afterwards
-unfoldable pub placed_as : Bool → List ℕ → Option (List ℕ)
-placed_as true w = Some w
-placed_as false w = None
+unfoldable pub placed_as : Option (Unit {0}) → List ℕ → Option (List ℕ)
+placed_as (Some u) w = Some w
+placed_as None w = None

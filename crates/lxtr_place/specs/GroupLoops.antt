@@ -1,13 +1,12 @@
 -- The loops over the keys of a group. What is left of the group completes the whole.
 use Prim.Native.Nat.{ℕ, zero, suc, ◌+◌, ◌*◌, ◌-◌, ◌/◌, ◌^◌, ◌≤◌, ◌<◌}
-use Rattle.std.specs.Prelude.{◌≡◌, refl, ◌≢◌, ◌⊎◌, Bool, true, false, not, get_or, length, take, drop}
+use Rattle.std.specs.Prelude.{◌≡◌, refl, ◌≢◌, ◌⊎◌, Bool, true, false, get_or, length, take, drop}
 use Rattle.std.proofs.Math.Path.{sym, ap}
 use Rattle.std.proofs.Common.{ap₂, ◌∙◌, subst, ⊎_elim, inl, inr, add-zero, zero-add, add-one, Fits, drop-drop}
 use mathlib.Core.List.{List, [], ◌∷◌, Memᴰ}
 use Rattle.std.proofs.Math.Nat.{sub-zero}
 use Rattle.std.proofs.Math.Decide.{dec_lt}
 use native.Mathlib.Omega.{arith}
-use Rattle.std.proofs.lemmas.Bool.{not-true, not-false}
 use Rattle.std.specs.Int.{w64}
 use borrow.Author.Rules.{Fits-under}
 use Rattle.std.proofs.Math.Dec.{eqb, ltb}
@@ -80,19 +79,19 @@ module _ (b : List ℕ) (g : Group) (x : ℕ) where
 
   module _ (at i : ℕ) (r : Running b g x at i) where
     module _ (t : Bool) (h : i < g.count) (e : t ≡ goes_by x (drop g.depth (key_at b at))) where
-      pub running_turn : (at' : ℕ) → not t ≡ false → at' ≡ next_key b at → Running b g x at' (i + 1)
+      pub running_turn : (at' : ℕ) → t ≡ true → at' ≡ next_key b at → Running b g x at' (i + 1)
       running_turn at' q n = rw n (record {
         passed = omega arith;
         whole = whole_on b g.count i at h r.whole;
-        run = omega (arith, r.run, ap (run_of x) (left_on b g at i h), run_by x (next b g at i) (left b g (next_key b at) (i + 1)) (sym e ∙ not-false t q));
+        run = omega (arith, r.run, ap (run_of x) (left_on b g at i h), run_by x (next b g at i) (left b g (next_key b at) (i + 1)) (sym e ∙ q));
       })
 
-      pub running_stop : not t ≡ true → i ≡ run_of x (group_of b g)
-      running_stop q = omega (arith, r.run, ap (run_of x) (left_on b g at i h), run_past x (next b g at i) (left b g (next_key b at) (i + 1)) (sym e ∙ not-true t q))
+      pub running_stop : t ≡ false → i ≡ run_of x (group_of b g)
+      running_stop q = omega (arith, r.run, ap (run_of x) (left_on b g at i h), run_past x (next b g at i) (left b g (next_key b at) (i + 1)) (sym e ∙ q))
 
-    pub running_end : g.count ≤ i → i ≡ run_of x (group_of b g)
+    pub running_end : g.count ≤ i → g.count ≡ run_of x (group_of b g)
     unfolding run_of
-    running_end h = omega (arith, r.run, ap (run_of x) (left_end b g at i h))
+    running_end h = omega (arith, r.passed, r.run, ap (run_of x) (left_end b g at i h))
 
 -- ---- keys by their place in a group
 

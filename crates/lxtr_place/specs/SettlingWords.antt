@@ -5,10 +5,10 @@ use Rattle.std.proofs.Math.Path.{refl, sym, ap}
 use Rattle.std.proofs.Common.{◌∙◌, subst, arith}
 use mathlib.Core.List.{List, [], ◌∷◌}
 use Rattle.std.proofs.Math.ListN.{set}
+use Rattle.lxtr_spec.specs.Labels.{max_slots}
 use Rattle.lxtr_spec.specs.Joining.{slot_under}
 use Rattle.lxtr_spec.specs.Placing.{check_at, first_fit, put_child, put_children, put_parent, settle}
 use Rattle.lxtr_laws.specs.Members.{member_at}
-use Rattle.lxtr_laws.specs.SlotMaps.{word_bits}
 use Rattle.lxtr_build_laws.specs.SlotWords.{check_of_base}
 use Rattle.lxtr_build_laws.specs.PlacingSteps.{Ready}
 use Rattle.lxtr_build_laws.specs.FirstFit.{first_fit_some, AllFree, fits_free}
@@ -100,10 +100,10 @@ module _ (S p v : ℕ) (cs w : List ℕ) (r : Option ℕ) (answer : r ≡ first_
     pub settle_inside : Ready S w p → SlotsBelow (length w / 2) b cs
     settle_inside ready = below (length w / 2) (omega (arith, ready.room))
 
-    module _ (m : List ℕ) (l : ℕ) (ready : Ready S w p) (map : FreeMap S w m l) where
-      pub settle_in_map : SlotsBelow (word_bits * length m) b cs
-      settle_in_map = below (word_bits * length m) (omega (arith, map.size, ready.slots))
+    pub settle_in_map : Ready S w p → SlotsBelow max_slots b cs
+    settle_in_map ready = below max_slots ready.slots
 
+    module _ (m : List ℕ) (l : ℕ) (ready : Ready S w p) (map : FreeMap S w m l) where
       -- they are taken in the map too
       pub settle_map : (u n : List ℕ) → u ≡ put_children p v b cs (put_parent p b cs w) → n ≡ each_step (taken_by b) cs m → FreeMap S u n l
       settle_map u n e q = rw (e, q) (settled_map S p v cs w m l b ready children_free map)

@@ -1,12 +1,11 @@
 -- The loop of `place` over the codes of a slot's children: its invariant, and its turns.
 use Prim.Native.Nat.{ℕ, zero, suc, ◌+◌, ◌-◌, ◌≤◌, ◌<◌}
-use Rattle.std.specs.Prelude.{◌≡◌, refl, ◌≢◌, Bool, true, false, not, get_or, length, take, drop, Option, Some, None}
+use Rattle.std.specs.Prelude.{◌≡◌, refl, ◌≢◌, get_or, length, take, drop, Option, Some, None}
 use Rattle.std.proofs.Math.Path.{sym, ap}
 use Rattle.std.proofs.Common.{ap₂, ◌∙◌, add-one, drop_of_length-le, length-take, length-drop, length-take-le, drop-cons, get_or-take}
 use Rattle.std.proofs.Math.Logic.{inl}
 use mathlib.Core.List.{List, [], ◌∷◌, ◌++◌, Memᴰ}
 use native.Mathlib.Omega.{arith}
-use Rattle.std.proofs.lemmas.Bool.{not-true, not-false}
 use Rattle.std.proofs.Math.Seq.{take_at}
 use Rattle.lxtr_spec.specs.Labels.{Pair}
 use Rattle.lxtr_spec.specs.KeyLists.{max_keys}
@@ -71,7 +70,7 @@ module _ (S : ℕ) (code label : ℕ → ℕ) (left : ℕ) (g : List Pair) where
     abbrev whole : Option (List ℕ)
     whole = place S code label left p g w
 
-    pub no_label_left : left ≡ 0 → placed_as true w ≡ whole
+    pub no_label_left : left ≡ 0 → placed_as (Some tt) w ≡ whole
     unfolding place placed_as
     no_label_left e = sym (ap (λ (k : ℕ). place S code label k p g w) e)
 
@@ -87,7 +86,7 @@ module _ (S : ℕ) (code label : ℕ → ℕ) (left : ℕ) (g : List Pair) where
       settled_is : (o : Option (ℕ × List ℕ)) → settled_as r u ≡ o → settle S p (end_value g) cs w ≡ o
       settled_is o e = ap (λ (k : List ℕ). settle S p (end_value g) k w) (sym are) ∙ sym answer ∙ e
 
-      pub none_fits : r ≡ None → (v : List ℕ) → placed_as false v ≡ whole
+      pub none_fits : r ≡ None → (v : List ℕ) → placed_as None v ≡ whole
       unfolding placed_as settled_as
       none_fits e v = sym (is_settled_as None some_left (settled_is None (ap (λ (y : Option ℕ). settled_as y u) e)))
 
@@ -124,7 +123,7 @@ module _ {S : ℕ} {code label : ℕ → ℕ} {left : ℕ} {g : List Pair} {n p 
     pub going_size : length x ≡ length w
     going_size = going.done.size ∙ (settle_step S p (end_value g) codes w b u s.fresh.ready up rises).size
 
-    pub going_end : k ≤ j → placed_as true x ≡ place S code label left p g w
+    pub going_end : k ≤ j → placed_as (Some tt) x ≡ place S code label left p g w
     unfolding into_each placed_as
     going_end h = sym (left_over ∙ ap (λ (l : List ℕ). into_each go l x) (drop_of_length-le codes {i = j} (omega (arith, count_is))))
 
@@ -163,14 +162,14 @@ module _ {S : ℕ} {code label : ℕ → ℕ} {left : ℕ} {g : List Pair} {n p 
         turn_room m r f e q group h = omega (arith, ap length group, codes_few code (label c) g, count_is, going.size, s.some_left, length-take (length room - k) (drop k room), length-drop k room)
 
         -- placing has gone into it: f is the child's group, r the answer, and z the work after it
-        module _ (some-code : c ≢ 0) {f : List Pair} (group : f ≡ below (label c) g) (r : Bool) (z : List ℕ) (placed : placed_as r z ≡ place S code label (left - 1) t f x) where
+        module _ (some-code : c ≢ 0) {f : List Pair} (group : f ≡ below (label c) g) (r : Option (Unit {0})) (z : List ℕ) (placed : placed_as r z ≡ place S code label (left - 1) t f x) where
           into_child : go c x ≡ placed_as r z
           into_child = sym (placed ∙ rw (at, group) refl)
 
-          pub turn_on : not r ≡ false → (ys room' y : List ℕ) → room' ≡ take k room ++ ys → length room' ≡ length room → y ≡ z → Going S code label left g k b u room₀ room' (j + 1) y
+          pub turn_on : r ≡ Some tt → (ys room' y : List ℕ) → room' ≡ take k room ++ ys → length room' ≡ length room → y ≡ z → Going S code label left g k b u room₀ room' (j + 1) y
           unfolding placed_as
           turn_on o ys room' y back same q =
-              let went : go c x ≡ Some z = into_child ∙ ap (λ (a : Bool). placed_as a z) (not-false r o) in
+              let went : go c x ≡ Some z = into_child ∙ ap (λ (a : Option (Unit {0})). placed_as a z) o in
               rw q (record {
                 to_last = omega arith;
                 small = going.small;
@@ -181,6 +180,6 @@ module _ {S : ℕ} {code label : ℕ → ℕ} {left : ℕ} {g : List Pair} {n p 
                 done = step_join wider (place_step S code label (left - 1) (slot_under b c) (below (label c) g) x z fresh_there.ready went) (λ t v. inl (j, omega arith, v ∙ ap (slot_under b) is));
               })
 
-          pub turn_refused : not r ≡ true → (v : List ℕ) → placed_as false v ≡ place S code label left p g w
+          pub turn_refused : r ≡ None → (v : List ℕ) → placed_as None v ≡ place S code label left p g w
           unfolding placed_as
-          turn_refused o v = sym (left_over ∙ here ∙ each_none go c (drop (j + 1) codes) x some-code (into_child ∙ ap (λ (a : Bool). placed_as a z) (not-true r o)))
+          turn_refused o v = sym (left_over ∙ here ∙ each_none go c (drop (j + 1) codes) x some-code (into_child ∙ ap (λ (a : Option (Unit {0})). placed_as a z) o))

@@ -1,5 +1,5 @@
 -- What `place` knows while it goes into the children of a slot, and what it has to show of each child.
-use Rattle.std.specs.Prelude.{ℕ, ◌+◌, ◌*◌, ◌-◌, ◌^◌, ◌≤◌, ◌<◌, ◌≡◌, ◌≢◌, List, [], ◌++◌, Bool, true, false, not, get_or, length, take, drop, Some, Option}
+use Rattle.std.specs.Prelude.{ℕ, ◌+◌, ◌*◌, ◌-◌, ◌^◌, ◌≤◌, ◌<◌, ◌≡◌, ◌≢◌, List, [], ◌++◌, get_or, length, take, drop, Some, None, Option}
 use Rattle.std.proofs.Common.{◌∙◌, arith, Fits}
 use Rattle.std.specs.Int.{w64}
 use borrow.Author.Rules.{Fits-under}
@@ -79,7 +79,7 @@ module _ {keys starts labels codes order : List ℕ} {S left p : ℕ} {g : Group
     pub room_size : length room ≡ length r
     room_size = going.size ∙ s.size
 
-    pub loop_end : k ≤ j → placed_as true x ≡ place S (code_by labels codes) (label_by labels order) left p (group_of keys g) w
+    pub loop_end : k ≤ j → placed_as (Some tt) x ≡ place S (code_by labels codes) (label_by labels order) left p (group_of keys g) w
     loop_end = going_end s.started going
 
     -- the next code is c
@@ -112,9 +112,9 @@ module _ {keys starts labels codes order : List ℕ} {S left p : ℕ} {g : Group
           }
 
         -- f are its keys, o is the answer, and z the work after it
-        module _ {t : ℕ} (at : t ≡ slot_under b c) {f : List Pair} (group : f ≡ below (label_by labels order c) (group_of keys g)) (o : Bool) (z : List ℕ) (placed : placed_as o z ≡ place S (code_by labels codes) (label_by labels order) (left - 1) t f x) where
-          pub child_placed : not o ≡ false → (ys room' y : List ℕ) → room' ≡ take k room ++ ys → length room' ≡ length room → y ≡ z → GoingOn room' (j + 1) y
+        module _ {t : ℕ} (at : t ≡ slot_under b c) {f : List Pair} (group : f ≡ below (label_by labels order c) (group_of keys g)) (o : Option (Unit {0})) (z : List ℕ) (placed : placed_as o z ≡ place S (code_by labels codes) (label_by labels order) (left - 1) t f x) where
+          pub child_placed : o ≡ Some tt → (ys room' y : List ℕ) → room' ≡ take k room ++ ys → length room' ≡ length room → y ≡ z → GoingOn room' (j + 1) y
           child_placed = turn_on s.started going h e at some group o z placed
 
-          pub child_refused : not o ≡ true → (v : List ℕ) → placed_as false v ≡ place S (code_by labels codes) (label_by labels order) left p (group_of keys g) w
+          pub child_refused : o ≡ None → (v : List ℕ) → placed_as None v ≡ place S (code_by labels codes) (label_by labels order) left p (group_of keys g) w
           child_refused = turn_refused s.started going h e at some group o z placed

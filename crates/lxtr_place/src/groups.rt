@@ -8,7 +8,6 @@ ghost use Rattle.lxtr_build_laws.specs.KeyListFacts.{WholeKey, Ascending};
 ghost use Rattle.lxtr_place.specs.GroupRanges.{place_of, group_of, Grouped, Indexed, goes_by, is_under, run_of};
 ghost use Rattle.lxtr_place.specs.GroupRuns.{tails};
 
-use lxtr_bytes::numbers::index;
 use lxtr_keys::{key_label, key_length, next_key};
 
 // `count` keys. The first starts at position `at` and has value number `first`. Their first `depth` labels lead to the slot.
@@ -49,7 +48,7 @@ fn start_of(keys: &[u8], starts: &[u32], g: Group, i: usize) -> usize
     requires i_le_count { i ≤ g.count }
     ensures { result ≡ place_of keys.now i g.at }
 {
-    index(starts[g.first + i])
+    starts[g.first + i] as usize
 }
 
 // The part of the group that starts at its first key not under x. It is found by binary search.
@@ -64,6 +63,7 @@ fn skip_to(keys: &[u8], starts: &[u32], g: Group, x: u32) -> Group
 {
     let mut low: usize = 0;
     let mut high = g.count;
+    // A binary search of its own: that a key may be read is known of the keys of the group alone.
     while low < high {
         let mid = low + (high - low) / 2;
         if is_under(keys, start_of(keys, starts, g, mid), g.depth, x) {
@@ -86,15 +86,13 @@ fn run_of(keys: &[u8], g: Group, x: u32) -> usize
     ensures { (result ≤ g.count) × (result ≡ run_of x (group_of keys.now g)) }
 {
     let mut at = g.at;
-    let mut i: usize = 0;
-    while i < g.count {
+    for i in 0..g.count {
         if !goes_by(keys, at, g.depth, x) {
             return i;
         }
         at = next_key(keys, at);
-        i += 1;
     }
-    i
+    g.count
 }
 
 // The group of the child by label x: the keys that continue with x, one label deeper.

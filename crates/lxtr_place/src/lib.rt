@@ -17,7 +17,7 @@ ghost use Rattle.lxtr_place.specs.AllKeys.{StartsPut};
 
 use crate::groups::Group;
 use crate::placing::place_root;
-use lxtr_codes::guesses::{GUESS_COUNT, note_all};
+use lxtr_codes::guesses::Guesses;
 use lxtr_fit::slots::slots_in;
 use lxtr_keys::{KEYS_AT, key_count, next_key};
 use lxtr_spec::{LENGTH_COUNT, MAX_KEYS};
@@ -35,23 +35,22 @@ fn put_starts(keys: &[u8], starts: &mut [u32])
 {
     let count = key_count(keys);
     let mut at: usize = KEYS_AT;
-    let mut i: usize = 0;
-    while i < count {
+    for i in 0..count {
         starts[i] = at as u32;
         at = next_key(keys, at);
-        i += 1;
     }
-    starts[i] = at as u32;
+    starts[count] = at as u32;
 }
 
-// Places all keys, starting at slot 1, with the tables of their code map. Returns whether every slot got a base.
+// Places all keys, starting at slot 1, with the tables of their code map. Answers nothing if some slot gets no
+// base.
 pub fn place_all(
     keys: &[u8],
     labels: &[u32],
     codes: &[u32],
     order: &[u32],
     work: &mut [u32],
-) -> bool
+) -> Option<()>
     requires keys_passed { KeysPassed keys.now }
     requires code_tables { CodeTables (pairs_of keys.now) labels.now codes.now order.now }
     requires cleared { Cleared work.old }
@@ -66,8 +65,8 @@ pub fn place_all(
     let slots = slots_in(work.len());
     let mut starts = [0u32; MAX_KEYS + 1];
     put_starts(keys, &mut starts);
-    let mut guesses = [0u32; GUESS_COUNT];
-    note_all(labels, &mut guesses);
+    let mut guesses = Guesses::new();
+    guesses.note_all(labels);
     let mut room = [0u32; ROOM];
     place_root(
         keys, &starts, labels, &guesses, codes, order, work, slots, &mut room, all,

@@ -16,30 +16,30 @@ ghost use Rattle.lxtr_place.specs.Within.{Called};
 use crate::codes::child_codes;
 use crate::groups::{Group, below, end_value};
 use crate::settling::settle;
-use lxtr_fit::free_map::{MAP_WORDS, mark_free};
+use lxtr_codes::guesses::Guesses;
+use lxtr_fit::free_map::FreeSlots;
 use lxtr_image::joining::slot_under;
-use lxtr_spec::{LENGTH_COUNT};
+use lxtr_spec::LENGTH_COUNT;
 
 // Places the children of slot p, which have these codes; g is the group of p. Returns the base of p, if one fits.
 fn settle_group(
     keys: &[u8],
     work: &mut [u32],
     slots: usize,
-    free: &mut [u64],
-    lowest: &mut u32,
+    free: &mut FreeSlots,
     p: u32,
     g: Group,
     children: &[u32],
-) -> Found
+) -> Option<u32>
     requires grouped { Grouped keys.now g }
     requires ascending { Ascending (group_of keys.now g) }
     requires ready { Ready slots work.old p }
-    requires free_map { FreeMap slots work.old free.old lowest.old }
+    requires free_map { FreeMap slots work.old free.old.map free.old.lowest }
     ensures work_after { settled_as result work.new ≡ Placing.settle slots p (end_value (group_of keys.now g)) children.now work.old }
-    ensures free_map_2 { FreeMap slots work.new free.new lowest.new }
+    ensures free_map_2 { FreeMap slots work.new free.new.map free.new.lowest }
 {
     let value = end_value(keys, g);
-    settle(work, slots, free, lowest, p, value, children)
+    settle(work, slots, free, p, value, children)
 }
 
 // The group of g's child by a code from 1 up. The tables give the label of the code.
@@ -64,45 +64,40 @@ fn child_group(
     below(keys, starts, g, labels[order[code as usize - 1] as usize])
 }
 
-// Places the group of slot p and all below it, with `left` labels still allowed. Returns whether every slot got a base. The codes
+// Places the group of slot p and all below it, with `left` labels still allowed. Answers nothing if some slot gets no base. The codes
 // of p's children stay at the front of the room while the children are placed; the rest of the room is for the codes further
 // down. The map says which slots of the work are free, and no slot below `lowest` is.
 fn place(
     keys: &[u8],
     starts: &[u32],
     labels: &[u32],
-    guesses: &[u32],
+    guesses: &Guesses,
     codes: &[u32],
     order: &[u32],
     work: &mut [u32],
     slots: usize,
-    free: &mut [u64],
-    lowest: &mut u32,
+    free: &mut FreeSlots,
     room: &mut [u32],
     left: usize,
     p: u32,
     g: Group,
-) -> bool
+) -> Option<()>
     requires called { Called keys.now starts.now labels.now codes.now order.now slots left p g work.old room.old }
-    requires free_map { FreeMap slots work.old free.old lowest.old }
+    requires free_map { FreeMap slots work.old free.old.map free.old.lowest }
     ensures work_after { placed_as result work.new ≡ Placing.place slots (code_by labels.now codes.now) (label_by labels.now order.now) left p (group_of keys.now g) work.old }
-    ensures free_map_2 { FreeMap slots work.new free.new lowest.new }
+    ensures free_map_2 { FreeMap slots work.new free.new.map free.new.lowest }
 {
     if left == 0 {
-        return true;
+        return Some(());
     }
     let count = child_codes(keys, g, labels, guesses, codes, room);
-    let fit = settle_group(keys, work, slots, free, lowest, p, g, &room[..count]);
-    let Some(base) = fit else {
-        return false;
-    };
-    let mut j: usize = 0;
-    while j < count {
+    let base = settle_group(keys, work, slots, free, p, g, &room[..count])?;
+    for j in 0..count {
         let code = room[j];
         if code != 0 {
             let t = slot_under(base, code);
             let child = child_group(keys, starts, labels, order, g, code);
-            if !place(
+            place(
                 keys,
                 starts,
                 labels,
@@ -112,41 +107,35 @@ fn place(
                 work,
                 slots,
                 free,
-                lowest,
                 &mut room[count..],
                 left - 1,
                 t,
                 child,
-            ) {
-                return false;
-            }
+            )?;
         }
-        j += 1;
     }
-    true
+    Some(())
 }
 
-// Places the group of slot 1 and all below it, in work that is cleared, with a new map of free slots. Returns whether every slot
-// got a base.
+// Places the group of slot 1 and all below it, in work that is cleared, with a new map of free slots. Answers nothing if some
+// slot gets no base.
 pub fn place_root(
     keys: &[u8],
     starts: &[u32],
     labels: &[u32],
-    guesses: &[u32],
+    guesses: &Guesses,
     codes: &[u32],
     order: &[u32],
     work: &mut [u32],
     slots: usize,
     room: &mut [u32],
     g: Group,
-) -> bool
+) -> Option<()>
     requires called { Called keys.now starts.now labels.now codes.now order.now slots length_count 1 g work.old room.old }
     requires cleared { Cleared work.old }
     ensures { placed_as result work.new ≡ Placing.place slots (code_by labels.now codes.now) (label_by labels.now order.now) length_count 1 (group_of keys.now g) work.old }
 {
-    let mut free = [0u64; MAP_WORDS];
-    mark_free(work, slots, &mut free);
-    let mut lowest: u32 = 0;
+    let mut free = FreeSlots::of_cleared(slots);
     place(
         keys,
         starts,
@@ -157,7 +146,6 @@ pub fn place_root(
         work,
         slots,
         &mut free,
-        &mut lowest,
         room,
         LENGTH_COUNT,
         1,

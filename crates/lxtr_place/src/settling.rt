@@ -1,18 +1,16 @@
 // Settles a slot: finds its base, writes its own words and those of its children, and takes their slots in the map of free slots.
 // Words 2s and 2s + 1 of the work are base and check of slot s.
 ghost use Rattle.std.specs.Prelude.{◌≡◌, ◌+◌, ◌*◌, ◌/◌, ◌<◌, length};
-ghost use Rattle.lxtr_spec.specs.Labels.{value_limit};
+ghost use Rattle.lxtr_spec.specs.Labels.{value_limit, max_slots};
 ghost use Rattle.lxtr_spec.specs.Joining.{slot_under};
 ghost use Rattle.lxtr_spec.specs.Placing;
 ghost use Rattle.lxtr_spec.specs.Placing.{put_parent, put_child, put_children};
-ghost use Rattle.lxtr_laws.specs.SlotMaps.{word_bits};
 ghost use Rattle.lxtr_build_laws.specs.PlacingSteps.{Ready};
 ghost use Rattle.lxtr_build_laws.specs.SlotLoops.{SlotsBelow, each_step};
 ghost use Rattle.lxtr_fit.specs.FreeMaps.{FreeMap, taken_by};
 ghost use Rattle.lxtr_place.specs.SettlingWords.{settled_as};
 
-use lxtr_fit::fitting::first_fit;
-use lxtr_fit::free_map::take_under;
+use lxtr_fit::free_map::FreeSlots;
 use lxtr_image::joining::slot_under;
 use lxtr_image::nodes::TOP_BIT;
 
@@ -52,48 +50,43 @@ fn put_children(work: &mut [u32], p: u32, value: u32, base: u32, codes: &[u32])
     requires value_lt_value_limit { value < value_limit }
     ensures { work.new ≡ put_children p value base codes.now work.old }
 {
-    let mut j: usize = 0;
-    while j < codes.len() {
-        put_child(work, p, value, base, codes[j]);
-        j += 1;
+    for code in codes {
+        put_child(work, p, value, base, *code);
     }
 }
 
 // Writes the words of p and of its children under a base, and takes the children's slots in the map.
-fn put_under(work: &mut [u32], free: &mut [u64], p: u32, value: u32, base: u32, codes: &[u32])
+fn put_under(work: &mut [u32], free: &mut FreeSlots, p: u32, value: u32, base: u32, codes: &[u32])
     requires p_in_bounds { 2 * p + 1 < length work.old }
     requires slots_below { SlotsBelow (length work.old / 2) base codes.now }
-    requires slots_below_2 { SlotsBelow (word_bits * length free.old) base codes.now }
+    requires slots_below_2 { SlotsBelow max_slots base codes.now }
     requires value_lt_value_limit { value < value_limit }
     ensures work_after { work.new ≡ put_children p value base codes.now (put_parent p base codes.now work.old) }
-    ensures free_after { free.new ≡ each_step (taken_by base) codes.now free.old }
+    ensures free_after { free.new.map ≡ each_step (taken_by base) codes.now free.old.map }
+    ensures lowest_unchanged { free.new.lowest ≡ free.old.lowest }
 {
     put_parent(work, p, base, codes);
     put_children(work, p, value, base, codes);
-    take_under(free, base, codes);
+    free.take_under(base, codes);
 }
 
 // Places the children of p, which have these codes; `value` is the value of the end, if there is one. Returns the base of p, if
-// one fits. The map says which slots of the work are free, before and after; no slot below `lowest` is.
+// one fits. The map says which slots of the work are free, before and after.
 pub fn settle(
     work: &mut [u32],
     slots: usize,
-    free: &mut [u64],
-    lowest: &mut u32,
+    free: &mut FreeSlots,
     p: u32,
     value: u32,
     codes: &[u32],
-) -> Found
+) -> Option<u32>
     requires ready { Ready slots work.old p }
-    requires free_map { FreeMap slots work.old free.old lowest.old }
+    requires free_map { FreeMap slots work.old free.old.map free.old.lowest }
     requires value_lt_value_limit { value < value_limit }
     ensures work_after { settled_as result work.new ≡ Placing.settle slots p value codes.now work.old }
-    ensures free_map_2 { FreeMap slots work.new free.new lowest.new }
+    ensures free_map_2 { FreeMap slots work.new free.new.map free.new.lowest }
 {
-    let fit = first_fit(work, slots, free, lowest, codes);
-    let Some(base) = fit else {
-        return None;
-    };
+    let base = free.first_fit(codes)?;
     put_under(work, free, p, value, base, codes);
     Some(base)
 }
