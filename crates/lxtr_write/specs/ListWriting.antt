@@ -261,10 +261,11 @@ module _ (w : List ℕ) (N L : ℕ) where
                   ∙ ap (over (over out₀ at x) (at + 4 * (N + 1))) (sym (ap le_words more ∙ words_append little (children_before p) (children_of w N L p)));
             }
 
-    pub lists_end : (out' : List ℕ) → N ≤ p → out' ≡ over out (at + 4 * p) (le_bytes e) → out' ≡ over out₀ at (le_words offsets ++ le_words (children_in w N L))
+    pub lists_end : (out' : List ℕ) → N ≤ p → out' ≡ over out (at + 4 * N) (le_bytes e) → out' ≡ over out₀ at (le_words offsets ++ le_words (children_in w N L))
     unfolding children_in
-    lists_end out' h q =
+    lists_end out' h q' =
         let is : p ≡ N = omega (arith, g.to) in
+        let q : out' ≡ over out (at + 4 * p) (le_bytes e) = rw is q' in
         let size = words_size little offsets in
         let count = offsets_length w N L N 0 0 in
         let whole : take (p + 1) offsets ≡ offsets = take_all (p + 1) offsets (omega arith) in

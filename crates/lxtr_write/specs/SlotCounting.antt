@@ -25,8 +25,8 @@ module _ (w : List ℕ) (slots n : ℕ) (so_far : slots_used w slots ≡ slots_u
     last : n ≡ suc (n - 1)
     last = omega arith
 
-    pub used_found : r ≡ true → n ≡ slots_used w slots
-    used_found t = last ∙ sym (so_far ∙ ap (slots_used w) last ∙ used_hit w (n - 1) (sym is ∙ t))
+    pub used_found : r ≡ true → n - 1 + 1 ≡ slots_used w slots
+    used_found t = let e : n - 1 + 1 ≡ n = omega arith in e ∙ last ∙ sym (so_far ∙ ap (slots_used w) last ∙ used_hit w (n - 1) (sym is ∙ t))
 
     pub used_next : r ≡ false → slots_used w slots ≡ slots_used w (n - 1)
     used_next t = so_far ∙ ap (slots_used w) last ∙ used_miss w (n - 1) (sym is ∙ t)

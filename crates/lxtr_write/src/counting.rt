@@ -19,12 +19,10 @@ pub fn slots_used(work: &[u32], slots: usize) -> usize
     requires le_slots { 2 ≤ slots }
     ensures { result ≡ slots_used work.now slots }
 {
-    let mut n = slots;
-    while 2 < n {
-        if is_taken_from_2(work, n - 1) {
-            return n;
+    for s in (2..slots).rev() {
+        if is_taken_from_2(work, s) {
+            return s + 1;
         }
-        n -= 1;
     }
     2
 }
@@ -35,10 +33,8 @@ pub fn taken_count(work: &[u32], slots: usize) -> usize
     ensures { result ≡ count_below slots (is_taken_from2 work.now) }
 {
     let mut taken = 0;
-    let mut s = 0;
-    while s < slots {
+    for s in 0..slots {
         taken += is_taken_from_2(work, s) as usize;
-        s += 1;
     }
     taken
 }

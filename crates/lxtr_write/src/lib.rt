@@ -22,19 +22,14 @@ use lxtr_bytes::heads::{HEAD_LENGTH, put_head};
 use lxtr_bytes::numbers::{put_be32, put_le32};
 use lxtr_fit::slots::slots_in;
 use lxtr_image::sections::HEADER_LENGTH;
-use lxtr_spec::Built;
-use lxtr_spec::refusals::OUT_TOO_SMALL;
+use lxtr_spec::refusals::Refusal;
 
 // Writes the four bytes `LXTR`.
 fn put_magic(out: &mut [u8])
     requires { header_length ≤ length out.old }
     ensures { out.new ≡ over out.old 0 magic }
 {
-    let magic = b"LXTR";
-    out[0] = magic[0];
-    out[1] = magic[1];
-    out[2] = magic[2];
-    out[3] = magic[3];
+    out[..4].copy_from_slice(b"LXTR");
 }
 
 // Writes the header: `LXTR`, version 3 and three zeros, then N, E and M, then four zeros.
@@ -56,11 +51,8 @@ fn put_nodes(out: &mut [u8], work: &[u32], slots: usize)
     requires slots_in_bounds { nodes_at + 8 * slots ≤ length out.old }
     ensures { out.new ≡ over out.old nodes_at (le_words (take (2 * slots) work.now)) }
 {
-    let words = 2 * slots;
-    let mut i = 0;
-    while i < words {
+    for i in 0..2 * slots {
         put_le32(out, HEADER_LENGTH + 4 * i, work[i]);
-        i += 1;
     }
 }
 
@@ -79,10 +71,8 @@ fn put_labels(out: &mut [u8], at: usize, labels: &[u32], order: &[u32])
     requires order_in_bounds { at + 4 * length order.now ≤ length out.old }
     ensures { out.new ≡ over out.old at (be_words (picked labels.now order.now)) }
 {
-    let mut j = 0;
-    while j < order.len() {
+    for j in 0..order.len() {
         put_be32(out, at + 4 * j, listed_label(labels, order, j));
-        j += 1;
     }
 }
 
@@ -133,7 +123,7 @@ fn put_fitting(
     children: usize,
     labels: &[u32],
     order: &[u32],
-) -> Built
+) -> Result<u32, Refusal>
     requires slots { Slots work.now slots }
     requires map_order { MapOrder labels.now order.now }
     requires counted { Counted work.now slots children (length order.now) }
@@ -142,21 +132,20 @@ fn put_fitting(
     let map_length = HEAD_LENGTH + 4 * order.len();
     let size = HEADER_LENGTH + 8 * slots + 4 * (slots + 1) + 4 * children + map_length;
     if out.len() < size {
-        return Built {
-            refusal: OUT_TOO_SMALL,
-            length: 0,
-        };
+        return Err(Refusal::OutTooSmall);
     }
     put_sections(out, work, slots, children, labels, order);
-    Built {
-        refusal: 0,
-        length: size as u32,
-    }
+    Ok(size as u32)
 }
 
 // Writes the image of the filled work, or gives refusal 23. Each taken slot from 2 up is the child of exactly one slot, so E is
 // the number of these slots.
-pub fn put_image(out: &mut [u8], work: &[u32], labels: &[u32], order: &[u32]) -> Built
+pub fn put_image(
+    out: &mut [u8],
+    work: &[u32],
+    labels: &[u32],
+    order: &[u32],
+) -> Result<u32, Refusal>
     requires { ImageReady work.now labels.now order.now }
     ensures { Answers (with_room (length out.old) (image_in work.now (slots_used work.now (slots_in (length work.now))) (picked labels.now order.now))) out.old result out.new }
 {

@@ -33,6 +33,7 @@ fn put_children(
 {
     let mut e = start;
     let mut t = links[p as usize];
+    // No count: a chain of links.
     while t != 0 {
         put_le32(out, at + 4 * e, t as u32);
         e += 1;
@@ -81,13 +82,11 @@ fn put_linked(
 {
     let children_at = at + 4 * (slots + 1);
     let mut e = 0;
-    let mut p = 0;
-    while p < slots {
+    for p in 0..slots {
         put_le32(out, at + 4 * p, e as u32);
         e = put_list(out, children_at, work, slots, last, links, p as u32, e);
-        p += 1;
     }
-    put_le32(out, at + 4 * p, e as u32);
+    put_le32(out, at + 4 * slots, e as u32);
 }
 
 // Writes the offsets, starting at position `at`, and after them the lists of all slots.
