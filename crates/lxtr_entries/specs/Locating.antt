@@ -1,17 +1,25 @@
 -- Where the entries of a query lie, as the code finds it: first the refusals, then the pair of offsets. The part that is handed back
 -- lies there. Results of calls are variables: each law says that what one return computes is the definition's answer.
-use Rattle.std.specs.Prelude.{ℕ, ◌+◌, ◌*◌, ◌-◌, ◌≤◌, ◌<◌, ◌^◌, ◌≡◌, ◌≢◌, List, Bool, true, false, ◌||◌, cond, length, take, drop, ltb, eqb, Some, None, Option}
-use Rattle.std.proofs.Common.{arith, ◌∙◌}
+use Rattle.std.specs.Prelude.{ℕ, ◌+◌, ◌*◌, ◌-◌, ◌≤◌, ◌<◌, ◌≡◌, ◌≢◌, List, [], Result, Ok, Err, Bool, true, false, ◌||◌, cond, length, ltb, eqb, Some, None, Option}
+use Rattle.std.proofs.Common.{arith, ◌∙◌, zero, suc, refl}
 use Rattle.std.proofs.Math.Path.{sym, ap}
 use borrow.Author.Tests.{lt-ltb, le-ltb, le-leb, lt-leb, eq-eqb, ne_eqb}
 use Rattle.lxtr_spec.specs.Refusals.{refuse_if, first_refusal, unless_refused}
 use Rattle.lxtr_spec.specs.Searches.{search_refusal, case_value, lookup_of}
 use Rattle.lxtr_spec.specs.Searches.{Lookup}
-use Rattle.lxtr_laws.specs.RefusalChains.{first_stands, stands}
-use Rattle.lxtr_entries_spec.specs.EntryTables.{entry_size, value_count, table_offset, entries_at, entry_count, entry_bytes, own_count, form_wrong, falls, pair_wrong, value_beyond}
+use Rattle.lxtr_spec.specs.Answers.{number}
+use Rattle.lxtr_spec.specs.declared.Case.{Case}
+use Rattle.lxtr_spec.specs.declared.Case.TheVariants.{Neither}
+use Rattle.lxtr_spec.specs.declared.refusals.Refusal.{Refusal}
+use Rattle.lxtr_laws.specs.Failures.{number_not_0}
+use Rattle.lxtr_laws.specs.RefusalChains.{first_stands}
+use Rattle.std.specs.Borrow.{Bor}
+use Rattle.lxtr_entries_spec.specs.declared.Entries.{Entries}
+use Rattle.lxtr_entries_spec.specs.declared.EntryRefusal.{EntryRefusal}
+use Rattle.lxtr_entries_spec.specs.EntryTables.{entry_number, entry_size, value_count, table_offset, entries_at, entry_count, entry_bytes, own_count, form_wrong, falls, pair_wrong, value_beyond}
 use Rattle.lxtr_entries_spec.specs.EntryLookups.{query_value, pair_refusal, entries_refusal, EntriesAnswer, entries_of, located_by, nowhere, located_of}
 use Rattle.lxtr_entries_spec.specs.EntryLookups.{Located}
-use Rattle.lxtr_entries_laws.specs.TableFacts.{has_head}
+use Rattle.lxtr_entries_laws.specs.TableFacts.{entries_start}
 use Rattle.lxtr_entries_laws.specs.Parts.{same_part, LiesIn, located_within}
 
 -- the place of the first entry, by whether there is one
@@ -21,6 +29,20 @@ module _ (first count : ℕ) where
 
   pub first_some : count ≢ 0 → first ≡ cond (eqb count 0) 0 first
   first_some h = rw (ne_eqb count 0 h)
+
+-- the same of the code's answer for a query with a value: a refusal, or the entries
+abbrev pub found_in : Result Entries EntryRefusal → Located
+found_in (Err r) = nowhere (entry_number r)
+found_in (Ok e) = record { refusal = 0; valued = true; first = e.first; count = e.count }
+
+-- the part that is handed back; empty after a refusal
+abbrev pub part_in : Result (Bor (List ℕ)) EntryRefusal → List ℕ
+part_in (Err r) = []
+part_in (Ok p) = p.now
+
+-- the refusals of image, query and the table's form
+unfoldable pub asked_refusal : List ℕ → List ℕ → List ℕ → ℕ
+asked_refusal b q t = first_refusal (search_refusal b q) (refuse_if (form_wrong t) 26 0)
 
 -- the answer for a value whose offset is `from` and whose next offset is `to`, if both can be read
 abbrev pub pair_refused : List ℕ → ℕ → ℕ → ℕ
@@ -37,95 +59,115 @@ module _ (t : List ℕ) (from to : ℕ) where
   unfolding refuse_if unless_refused
   pair_falls r h e = rw (lt-ltb to from h) e
 
-  -- m is the number of entries, j the second offset as an index
-  module _ (rises : from ≤ to) (m : ℕ) (entries : m ≡ entry_count t) (j : ℕ) (end : (j ≡ to) × (j < 2 ^ 32)) where
-    pub pair_past : (r : Located) → m < j → r ≡ nowhere 26 → r ≡ located_pair t from to
+  -- m is the number of entries
+  module _ (rises : from ≤ to) (m : ℕ) (entries : m ≡ entry_count t) where
+    pub pair_past : (r : Located) → m < to → r ≡ nowhere 26 → r ≡ located_pair t from to
     unfolding refuse_if unless_refused
-    pair_past r h e = rw (le-ltb to from rises, ← entries, lt-ltb m to (omega (arith, end.0))) e
+    pair_past r h e = rw (le-ltb to from rises, ← entries, lt-ltb m to h) e
 
-    pub pair_told : (p : ℕ) → j ≤ m → p ≡ cond (eqb (to - from) 0) 0 from
+    pub pair_told : (p : ℕ) → to ≤ m → p ≡ cond (eqb (to - from) 0) 0 from
         → ◌≡◌ {A = Located} (record { refusal = 0; valued = true; first = p; count = to - from }) (located_pair t from to)
     unfolding refuse_if unless_refused
-    pair_told p h e = rw (le-ltb to from rises, ← entries, le-ltb m to (omega (arith, end.0)), e)
+    pair_told p h e = rw (le-ltb to from rises, ← entries, le-ltb m to h, e)
 
 -- the answer for a query with value v, if the table's form is right: 27, then the pair
 abbrev pub value_refusal : List ℕ → ℕ → ℕ
 value_refusal t v = refuse_if (value_beyond t (Some v)) 27 (pair_refusal t (Some v))
 
-abbrev pub located_in : List ℕ → ℕ → Located
-located_in t v = unless_refused (value_refusal t v) (located_by t (Some v)) (nowhere (value_refusal t v))
+abbrev pub located_value : List ℕ → ℕ → Located
+located_value t v = unless_refused (value_refusal t v) (located_by t (Some v)) (nowhere (value_refusal t v))
 
--- n is V, i the value as an index
+-- n is V
 module _ (t : List ℕ) (v n : ℕ) (count : n ≡ value_count t) where
-  pub value_refused : (r : Located) → n ≤ v → r ≡ nowhere 27 → r ≡ located_in t v
+  pub value_refused : (r : Located) → n ≤ v → r ≡ nowhere 27 → r ≡ located_value t v
   unfolding value_beyond refuse_if unless_refused
   value_refused r h e = rw (le-leb (value_count t) v (omega arith)) e
 
-  module _ (below : v < n) (i : ℕ) (place : (i ≡ v) × (i < 2 ^ 32)) where
-    pub first_there : i ≤ value_count t
-    first_there = omega (arith, place.0)
+  pub pair_read : v < n → (from to : ℕ) (r : Located) → from ≡ table_offset t v → to ≡ table_offset t (v + 1) → r ≡ located_pair t from to → r ≡ located_value t v
+  unfolding value_beyond pair_refusal pair_wrong falls refuse_if located_by own_count
+  pair_read below from to r first next e = rw (lt-leb (value_count t) v (omega arith), ← first, ← next) e
 
-    pub next_there : i + 1 ≤ value_count t
-    next_there = omega (arith, place.0)
+-- ---- the refusals of image, query and form
 
-    pub pair_read : (from to : ℕ) (r : Located) → from ≡ table_offset t i → to ≡ table_offset t (i + 1) → r ≡ located_pair t from to → r ≡ located_in t v
-    unfolding value_beyond pair_refusal pair_wrong falls refuse_if located_by own_count
-    pair_read from to r first next e = rw (lt-leb (value_count t) v (omega arith), ← place.0, ← first, ← next) e
+module _ (b q t : List ℕ) where
+  -- e is the refusal of the lookup
+  pub ask_refused : (e : Refusal) → ◌≡◌ {A = Lookup} (record { refusal = number e; case = Neither }) (lookup_of b q) → number e ≡ asked_refusal b q t
+  unfolding asked_refusal lookup_of
+  ask_refused e known = rw (← ap (λ (l : Lookup). l.refusal) known) (sym (first_stands (number e) (refuse_if (form_wrong t) 26 0) (number_not_0 e)))
 
--- a is what `lookup` answered
-module _ (b q t : List ℕ) (a : Lookup) (known : a ≡ lookup_of b q) where
-  refusal_same : a.refusal ≡ search_refusal b q
-  unfolding lookup_of
-  refusal_same = ap (λ (l : Lookup). l.refusal) known
+  -- a is the case that the lookup found
+  module _ (a : Case) (known : ◌≡◌ {A = Lookup} (record { refusal = 0; case = a }) (lookup_of b q)) where
+    pub ask_told : (k : ℕ) → k ≡ refuse_if (form_wrong t) 26 0 → k ≡ asked_refusal b q t
+    unfolding asked_refusal lookup_of first_refusal
+    ask_told k e = rw (← ap (λ (l : Lookup). l.refusal) known) e
 
-  pub query_refused : (r : Located) → a.refusal ≢ 0 → r ≡ nowhere a.refusal → r ≡ located_of b q t
-  unfolding located_of entries_refusal
-  query_refused r h e =
-      let stays = first_stands a.refusal (refuse_if (form_wrong t) 26 (refuse_if (value_beyond t (query_value b q)) 27 (pair_refusal t (query_value b q)))) h in
-      rw (← refusal_same, stays, stands a.refusal (located_by t (query_value b q)) (nowhere a.refusal) h) e
+    pub ask_value : case_value a ≡ query_value b q
+    unfolding query_value
+    ask_value = ap (λ (l : Lookup). case_value l.case) known
 
-  module _ (fine : a.refusal ≡ 0) (w : Bool) (form : w ≡ form_wrong t) where
-    pub form_refused : (r : Located) → w ≡ true → r ≡ nowhere 26 → r ≡ located_of b q t
-    unfolding located_of entries_refusal first_refusal refuse_if unless_refused
-    form_refused r h e = rw (sym refusal_same ∙ fine, sym form ∙ h) e
+-- ---- where the entries lie
 
-    -- f is the value of the query
-    module _ (right : w ≡ false) (f : Option ℕ) (value : f ≡ case_value a.case) where
-      asked : query_value b q ≡ f
-      unfolding query_value
-      asked = ap (λ (l : Lookup). case_value l.case) (sym known) ∙ sym value
+stops_by : (n : ℕ) (w : Bool) (later k : ℕ) (there : Located) → k ≡ first_refusal n (refuse_if w 26 0) → k ≢ 0
+    → nowhere k ≡ unless_refused (first_refusal n (refuse_if w 26 later)) there (nowhere (first_refusal n (refuse_if w 26 later)))
+unfolding first_refusal refuse_if unless_refused
+stops_by zero true later k there e h = rw e
+stops_by zero false later k there e h = absurd (h e)
+stops_by (suc n) w later k there e h = rw e
 
-      pub no_value : f ≡ None → ◌≡◌ {A = Located} (record { refusal = 0; valued = false; first = 0; count = 0 }) (located_of b q t)
-      unfolding located_of entries_refusal first_refusal refuse_if unless_refused value_beyond pair_refusal located_by
-      no_value h = rw (sym refusal_same ∙ fine, sym form ∙ right, asked ∙ h)
+goes_by : (n : ℕ) (w : Bool) (later : ℕ) → 0 ≡ first_refusal n (refuse_if w 26 0) → (w ≡ false) × (first_refusal n (refuse_if w 26 later) ≡ later)
+unfolding first_refusal refuse_if
+goes_by zero true later e = absurd (omega arith)
+goes_by zero false later e = (refl, refl)
+goes_by (suc n) w later e = absurd (omega arith)
 
-      pub value_located : (v : ℕ) (r : Located) → f ≡ Some v → r ≡ located_in t v → r ≡ located_of b q t
-      unfolding located_of entries_refusal first_refusal refuse_if
-      value_located v r h e = rw (sym refusal_same ∙ fine, sym form ∙ right, asked ∙ h) e
+starts_at_0 : (t : List ℕ) (o : Option ℕ) (k : ℕ) → (unless_refused k (located_by t o) (nowhere k)).count ≡ 0 → (unless_refused k (located_by t o) (nowhere k)).first ≡ 0
+unfolding unless_refused located_by nowhere
+starts_at_0 t None zero h = refl
+starts_at_0 t (Some v) zero h = rw (eq-eqb (own_count t v) 0 h)
+starts_at_0 t o (suc k) h = refl
 
--- a is where the part lies
-module _ (b q t : List ℕ) (a : Located) (known : a ≡ located_of b q t) where
-  pub no_entries : a.count ≡ 0 → ◌≡◌ {A = EntriesAnswer} (record { refusal = a.refusal; part = take 0 t }) (entries_of b q t)
-  unfolding entry_bytes
-  no_entries h = sym (same_part b q t ∙ rw (← known, h))
+module _ (b q t : List ℕ) where
+  pub ask_stops : (k : ℕ) → k ≡ asked_refusal b q t → k ≢ 0 → nowhere k ≡ located_of b q t
+  unfolding asked_refusal located_of entries_refusal
+  ask_stops k e h = stops_by (search_refusal b q) (form_wrong t) (refuse_if (value_beyond t (query_value b q)) 27 (pair_refusal t (query_value b q))) k (located_by t (query_value b q)) e h
 
-  pub entries_told : (part : List ℕ) → part ≡ entry_bytes t a.first a.count → ◌≡◌ {A = EntriesAnswer} (record { refusal = a.refusal; part = part }) (entries_of b q t)
-  entries_told part e = sym (same_part b q t ∙ rw (← known, e))
+  module _ (fine : 0 ≡ asked_refusal b q t) where
+    pub form_known : form_wrong t ≡ false
+    unfolding asked_refusal
+    form_known = (goes_by (search_refusal b q) (form_wrong t) 0 fine).0
 
-  module _ (more : a.count ≢ 0) where
-    lies : LiesIn t a
-    lies = rw known (located_within b q t (rw known at more))
+    refusal_left : entries_refusal b q t ≡ refuse_if (value_beyond t (query_value b q)) 27 (pair_refusal t (query_value b q))
+    unfolding asked_refusal entries_refusal
+    refusal_left = (goes_by (search_refusal b q) (form_wrong t) (refuse_if (value_beyond t (query_value b q)) 27 (pair_refusal t (query_value b q))) fine).1
 
-    pub part_head : 5 ≤ length t
-    part_head = has_head t lies.0
+    pub no_value : None ≡ query_value b q → ◌≡◌ {A = Located} (record { refusal = 0; valued = false; first = 0; count = 0 }) (located_of b q t)
+    unfolding located_of unless_refused value_beyond pair_refusal located_by refuse_if
+    no_value h = rw (refusal_left, ← h)
 
-    pub part_within : entries_at t + entry_size * (a.first + a.count) ≤ length t
-    part_within = lies.1
+    pub value_located : (v : ℕ) (r : Located) → Some v ≡ query_value b q → r ≡ located_value t v → r ≡ located_of b q t
+    unfolding located_of
+    value_located v r h e = rw (refusal_left, ← h) e
 
--- the bytes between start and end, which are computed from where the entries begin; i and n are the numbers as indices
-pub part_bytes : (t : List ℕ) (first count s i n : ℕ) → (s ≡ entries_at t) × (s < 2 ^ 35) → (i ≡ first) × (i < 2 ^ 32) → (n ≡ count) × (n < 2 ^ 32)
-    → take (s + entry_size * i + entry_size * n - (s + entry_size * i)) (drop (s + entry_size * i) t) ≡ entry_bytes t first count
-unfolding entry_bytes
-part_bytes t first count s i n start from size =
-    let e : s + entry_size * i + entry_size * n - (s + entry_size * i) ≡ entry_size * n = omega arith in
-    rw (e, start.0, from.0, size.0)
+  -- a is where the part lies
+  module _ (a : Located) (known : a ≡ located_of b q t) where
+    pub entries_told : (part : List ℕ) → part ≡ entry_bytes t a.first a.count → ◌≡◌ {A = EntriesAnswer} (record { refusal = a.refusal; part = part }) (entries_of b q t)
+    entries_told part e = sym (same_part b q t ∙ rw (← known, e))
+
+    first_of_none : a.count ≡ 0 → a.first ≡ 0
+    unfolding located_of
+    first_of_none h = rw known (starts_at_0 t (query_value b q) (entries_refusal b q t) (rw known at h))
+
+    pub part_within : form_wrong t ≡ false → entries_at t + entry_size * (a.first + a.count) ≤ length t
+    part_within formed = go a.count refl
+      where
+        go : (n : ℕ) → a.count ≡ n → entries_at t + entry_size * (a.first + n) ≤ length t
+        go zero z = rw (first_of_none z) (omega (arith, entries_start t formed))
+        go (suc n) z =
+            let some : a.count ≢ 0 = omega arith in
+            let lies : LiesIn t a = rw known (located_within b q t (rw known at some)) in
+            rw (← z) lies.1
+
+  -- after a refusal
+  pub no_part : (k : ℕ) → nowhere k ≡ located_of b q t → ◌≡◌ {A = EntriesAnswer} (record { refusal = k; part = [] }) (entries_of b q t)
+  unfolding nowhere entry_bytes
+  no_part k known = entries_told (nowhere k) known [] refl

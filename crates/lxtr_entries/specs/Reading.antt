@@ -1,14 +1,13 @@
 -- An entry table as the code reads it: version and length, values and offsets.
 -- Results of calls are variables: each law says which definition equals what one return computes.
-use Rattle.std.specs.Prelude.{ℕ, ◌+◌, ◌-◌, ◌/◌, ◌%◌, ◌^◌, ◌≤◌, ◌<◌, ◌≡◌, List, Bool, true, false, ◌||◌, not, length, leb, ltb, eqb, Some, None, Option}
-use Rattle.std.proofs.Common.{arith, sym, ◌∙◌}
+use Rattle.std.specs.Prelude.{ℕ, ◌+◌, ◌-◌, ◌%◌, ◌^◌, ◌≤◌, ◌<◌, ◌≡◌, List, true, false, not, length, ltb, eqb}
+use Rattle.std.proofs.Common.{arith}
 use Rattle.std.proofs.Math.Bool.{or-true}
 use borrow.Author.Tests.{lt-ltb, le-ltb, ne_eqb}
 use Rattle.lxtr_spec.specs.Ranges.{any_below}
 use Rattle.lxtr_spec.specs.Numbers.{byte_at}
 use Rattle.lxtr_laws.specs.Scans.{NoneSoFar, scan_start, scan_next, scan_hit, scan_end}
-use Rattle.lxtr_entries_laws.specs.TableFacts.{form_right}
-use Rattle.lxtr_entries_spec.specs.EntryTables.{entry_size, table_version, value_count, table_offset, entries_at, entry_count, form_wrong, falls, value_beyond, offsets_wrong}
+use Rattle.lxtr_entries_spec.specs.EntryTables.{entry_size, table_version, value_count, table_offset, entries_at, form_wrong, falls}
 
 -- ---- version and length
 
@@ -31,32 +30,6 @@ module _ (t : List ℕ) where
       pub rest_told : v ≡ 1 → s ≤ length t → not (eqb ((length t - s) % entry_size) 0) ≡ form_wrong t
       unfolding form_wrong table_version
       rest_told one h = rw (← version, one, ← start.0, le-ltb (length t) s h)
-
-  pub formed_by : (w : Bool) → w ≡ form_wrong t → w ≡ false → form_wrong t ≡ false
-  formed_by w e h = sym e ∙ h
-
-  -- s is where the entries begin
-  module _ (formed : form_wrong t ≡ false) (s : ℕ) (start : (s ≡ entries_at t) × (s < 2 ^ 35)) where
-    pub start_within : s ≤ length t
-    start_within = omega (arith, start.0, ((form_right t).0 formed).within)
-
-    pub entries_counted : (length t - s) / entry_size ≡ entry_count t
-    unfolding entry_count
-    entries_counted = rw start.0
-
-  -- l is offset i, and i is V
-  pub last_read : (v i l : ℕ) → v ≡ value_count t → (i ≡ v) × (i < 2 ^ 32) → l ≡ table_offset t i → l ≡ table_offset t (value_count t)
-  last_read v i l count same e = rw (← count, ← same.0) e
-
-  -- whether a value is below V; n is V
-  module _ (f : Option ℕ) where
-    pub beyond_value : (v n : ℕ) → f ≡ Some v → n ≡ value_count t → leb n v ≡ value_beyond t f
-    unfolding value_beyond
-    beyond_value v n h e = rw (h, e)
-
-    pub beyond_none : f ≡ None → false ≡ value_beyond t f
-    unfolding value_beyond
-    beyond_none h = rw h
 
 -- ---- offsets
 
@@ -83,9 +56,3 @@ module _ (t : List ℕ) (count : ℕ) where
 
     pub rises_all : count ≤ i → count ≡ value_count t → false ≡ any_below (value_count t) (falls t)
     rises_all h e = scan_end (falls t) count i so_far.none (value_count t) e h
-
--- a is the first offset, l the last, m the same as an index, c the number of entries, f whether one falls
-pub offsets_told : (t : List ℕ) (a l m c : ℕ) (f : Bool) → a ≡ table_offset t 0 → f ≡ any_below (value_count t) (falls t) → l ≡ table_offset t (value_count t)
-    → (m ≡ l) × (m < 2 ^ 32) → c ≡ entry_count t → (not (eqb a 0) || f || not (eqb m c)) ≡ offsets_wrong t
-unfolding offsets_wrong
-offsets_told t a l m c f first fall last same count = rw (← first, ← fall, ← last, ← count, same.0)

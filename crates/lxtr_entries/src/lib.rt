@@ -2,156 +2,64 @@
 // image, query and table. The image is read only by operations of the library, of which only the contracts are used.
 #![tactic(auto)]
 
-mod tables; // reads an entry table
+mod tables; // an entry table whose version and length are right
 
-ghost use Rattle.std.specs.Prelude.{◌≡◌, false, cond, ◌+◌, ◌*◌, ◌≤◌, length, eqb};
-ghost use Rattle.lxtr_entries_spec.specs.EntryTables.{entry_size, entries_at, entry_bytes, form_wrong, table_refusal, table_verdict_of};
-ghost use Rattle.lxtr_entries_spec.specs.EntryLookups.{nowhere, located_of, entries_of};
-ghost use Rattle.lxtr_entries_laws.specs.TableFacts.{later_refusal};
-ghost use Rattle.lxtr_entries.specs.Locating.{located_pair, located_in};
+ghost use Rattle.std.specs.Prelude.{◌≡◌, IfOk};
+ghost use Rattle.lxtr_spec.specs.Answers.{number_by, answer_or};
+ghost use Rattle.lxtr_entries_spec.specs.EntryTables.{entry_number, table_verdict_of};
+ghost use Rattle.lxtr_entries_spec.specs.EntryLookups.{query_value, located_in, located_of, entries_of};
+ghost use Rattle.lxtr_entries.specs.Locating.{asked_refusal, part_in};
 
-use crate::tables::{
-    entries_at, entry_count, form_wrong, last_offset, offset_at, offsets_refusal, value_count,
-};
-use lxtr_bytes::numbers::index;
-use lxtr_entries_spec::{ENTRY_BYTES, Located, TABLE_MALFORMED, TableVerdict, VALUE_BEYOND};
+use crate::tables::EntryTable;
+use lxtr_entries_spec::{Entries, EntryRefusal};
 use lxtr_highest::highest;
-use lxtr_search::cases::found_value;
-use lxtr_search::lookup;
-
-// The first of refusals 26 and 27 that holds, or 0, for an image with this highest value.
-fn later_refusal(table: &[u8], highest: Option<u32>) -> u8
-    ensures { result ≡ later_refusal table.now highest }
-{
-    if form_wrong(table) {
-        return TABLE_MALFORMED;
-    }
-    offsets_refusal(table, highest)
-}
-
-// The first of refusals 1 to 12, 26 and 27 that holds, or 0.
-fn table_refusal(image: &[u8], table: &[u8]) -> u8
-    ensures { result ≡ table_refusal image.now table.now }
-{
-    let top = highest(image);
-    if top.refusal != 0 {
-        return top.refusal;
-    }
-    let value = top.value;
-    later_refusal(table, value)
-}
+use lxtr_search::{lookup, value_of};
 
 // The check of a table for an image: whether it is well-formed and has a list of entries for each value of the image; and how many
 // entries it has.
-pub fn check_table(image: &[u8], table: &[u8]) -> TableVerdict
-    ensures { result ≡ table_verdict_of image.now table.now }
+pub fn check_table(image: &[u8], table: &[u8]) -> Result<u32, EntryRefusal>
+    ensures { record { refusal = number_by entry_number result; entries = answer_or 0 result } ≡ table_verdict_of image.now table.now }
 {
-    let refusal = table_refusal(image, table);
-    if refusal != 0 {
-        return TableVerdict {
-            refusal,
-            entries: 0,
-        };
-    }
-    TableVerdict {
-        refusal: 0,
-        entries: last_offset(table),
+    let top = highest(image)?;
+    let table = EntryTable::read(table)?;
+    table.check(top)
+}
+
+// The table and the value of the query, after the tests of image and query and of the table's form.
+fn ask<'a>(
+    image: &[u8],
+    query: &[u8],
+    table: &'a [u8],
+) -> Result<(EntryTable<'a>, Option<u32>), EntryRefusal>
+    ensures refusal { number_by entry_number result ≡ asked_refusal image.now query.now table.now }
+    ensures asked { IfOk result (λ a. (a.0 ≡ table.now) × (a.1 ≡ query_value image.now query.now)) }
+{
+    let case = lookup(image, query)?;
+    let table = EntryTable::read(table)?;
+    Ok((table, value_of(case)))
+}
+
+// Where the entries of the query lie in the table, if it has a value.
+pub fn locate(image: &[u8], query: &[u8], table: &[u8]) -> Result<Option<Entries>, EntryRefusal>
+    ensures { located_in result ≡ located_of image.now query.now table.now }
+{
+    let (table, value) = ask(image, query, table)?;
+    match value {
+        Some(v) => Ok(Some(table.locate(v)?)),
+        None => Ok(None),
     }
 }
 
-// The answer to a refused lookup.
-fn refused(refusal: u8) -> Located
-    ensures { result ≡ nowhere refusal }
+// The entries of the query, as a part of the lent table; empty if it has none or has no value.
+pub fn entries<'a>(image: &[u8], query: &[u8], table: &'a [u8]) -> Result<&'a [u8], EntryRefusal>
+    ensures { record { refusal = number_by entry_number result; part = part_in result } ≡ entries_of image.now query.now table.now }
 {
-    Located {
-        refusal,
-        valued: false,
-        first: 0,
-        count: 0,
+    let (table, value) = ask(image, query, table)?;
+    match value {
+        Some(v) => {
+            let there = table.locate(v)?;
+            Ok(table.part(there))
+        }
+        None => Ok(&[]),
     }
-}
-
-// The place of the first of `count` entries, or 0 if there are none.
-fn first_place(first: u32, count: u32) -> u32
-    ensures { result ≡ cond (eqb count 0) 0 first }
-{
-    if count == 0 { 0 } else { first }
-}
-
-// Where the entries between two offsets lie, or 26 if the pair falls or passes the entries.
-fn locate_pair(table: &[u8], from: u32, to: u32) -> Located
-    requires { form_wrong table.now ≡ false }
-    ensures { result ≡ located_pair table.now from to }
-{
-    if to < from {
-        return refused(TABLE_MALFORMED);
-    }
-    if entry_count(table) < index(to) {
-        return refused(TABLE_MALFORMED);
-    }
-    let count = to - from;
-    Located {
-        refusal: 0,
-        valued: true,
-        first: first_place(from, count),
-        count,
-    }
-}
-
-// Where the entries of value v lie.
-fn locate_value(table: &[u8], v: u32) -> Located
-    requires { form_wrong table.now ≡ false }
-    ensures { result ≡ located_in table.now v }
-{
-    if value_count(table) <= v {
-        return refused(VALUE_BEYOND);
-    }
-    let i = index(v);
-    locate_pair(table, offset_at(table, i), offset_at(table, i + 1))
-}
-
-// Where the entries of the query lie in the table.
-pub fn locate(image: &[u8], query: &[u8], table: &[u8]) -> Located
-    ensures { result ≡ located_of image.now query.now table.now }
-{
-    let answer = lookup(image, query);
-    if answer.refusal != 0 {
-        return refused(answer.refusal);
-    }
-    if form_wrong(table) {
-        return refused(TABLE_MALFORMED);
-    }
-    let Some(v) = found_value(answer) else {
-        return Located {
-            refusal: 0,
-            valued: false,
-            first: 0,
-            count: 0,
-        };
-    };
-    locate_value(table, v)
-}
-
-// `count` entries of the table, starting at entry `first`.
-fn part<'a>(table: &'a [u8], first: u32, count: u32) -> &'a [u8]
-    requires in_bounds { 5 ≤ length table.now }
-    requires count_in_bounds { entries_at table.now + entry_size * (first + count) ≤ length table.now }
-    ensures { result.now ≡ entry_bytes table.now first count }
-{
-    let start = entries_at(table) + ENTRY_BYTES * index(first);
-    let end = start + ENTRY_BYTES * index(count);
-    &table[start..end]
-}
-
-// The entries of the query, as a part of the lent table; empty if it has none, has no value or is refused. `refusal` is set to the
-// refusal, or to 0.
-pub fn entries<'a>(image: &[u8], query: &[u8], table: &'a [u8], refusal: &mut u8) -> &'a [u8]
-    ensures { record { refusal = refusal.new; part = result.now } ≡ entries_of image.now query.now table.now }
-{
-    let answer = locate(image, query, table);
-    *refusal = answer.refusal;
-    if answer.count == 0 {
-        return &table[..0];
-    }
-    part(table, answer.first, answer.count)
 }

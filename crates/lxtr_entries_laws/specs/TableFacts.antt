@@ -43,6 +43,10 @@ module _ (t : List ℕ) where
     unfolding entries_at
     offset_within i h = omega (arith, (form_right.0 formed).within)
 
+    -- the entries begin in the table
+    pub entries_start : entries_at t ≤ length t
+    entries_start = (form_right.0 formed).within
+
     -- as many entries as there are lie in the table
     pub entries_within : (n : ℕ) → n ≤ entry_count t → entries_at t + entry_size * n ≤ length t
     unfolding entry_count
