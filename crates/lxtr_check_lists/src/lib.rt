@@ -2,12 +2,13 @@
 // in which none falls is `Lists`.
 #![tactic(auto)]
 
-ghost use Rattle.std.specs.Prelude.{◌≡◌, false, ◌+◌, ◌<◌, MatchResult, Some};
+ghost use Rattle.std.specs.Prelude.{◌≡◌, false, ◌+◌, ◌<◌, MatchResult, Some, option_map};
 ghost use Rattle.lxtr_spec.specs.Ranges.{any_below};
 ghost use Rattle.lxtr_spec.specs.Image.{slot_count, child_count, offset, list_width};
 ghost use Rattle.lxtr_spec.specs.Refusals.{slots_wrong, offset_falls, used_count, entry_wrong, code_not_above, entry_wrong_in, entries_wrong, childless, root_wrong, lists_wrong};
 ghost use Rattle.lxtr_laws.specs.Passed.{Passed};
 ghost use Rattle.lxtr_laws.specs.FirstPlaces.{first_in};
+ghost use Rattle.lxtr_check_lists.specs.Entries.{first_entry};
 
 use lxtr_check_slots::{Slots, is_used, is_used_from_2};
 use lxtr_image::Image;
@@ -121,7 +122,7 @@ impl<'a> Lists<'a> {
     }
 
     // The first wrong entry of the list of slot p, counted from the start of the list.
-    pub fn first_wrong_entry(&self, p: u32) -> Option<u32>
+    fn first_wrong_in(&self, p: u32) -> Option<u32>
         requires { p < slot_count self.now }
         ensures { result ≡ first_in (list_width self.now p) (entry_wrong_in self.now p) }
     {
@@ -129,18 +130,17 @@ impl<'a> Lists<'a> {
         (0..image.list_width(p)).find(|&i| entry_wrong_in(&image, p, i))
     }
 
-    fn entries_wrong(&self, p: u32) -> bool
-        requires { p < slot_count self.now }
-        ensures { result ≡ entries_wrong self.now p }
+    // The first slot whose list has a wrong entry, and the first such entry, by its place in the children array.
+    pub fn first_wrong_entry(&self) -> Option<(u32, u32)>
+        ensures { result ≡ option_map (first_entry self.now) (first_in (slot_count self.now) (entries_wrong self.now)) }
     {
-        self.first_wrong_entry(p).is_some()
-    }
-
-    // The first slot whose list has a wrong entry.
-    pub fn first_wrong_list(&self) -> Option<u32>
-        ensures { result ≡ first_in (slot_count self.now) (entries_wrong self.now) }
-    {
-        (0..self.image().slot_count()).find(|&p| self.entries_wrong(p))
+        let image = self.image();
+        for p in 0..image.slot_count() {
+            if let Some(i) = self.first_wrong_in(p) {
+                return Some((p, image.offset(p) + i));
+            }
+        }
+        None
     }
 }
 
@@ -181,7 +181,7 @@ pub fn lists_wrong(slots: &Slots) -> bool
     };
     let image = lists.image();
     (image.child_count() != used_count(&image))
-        | lists.first_wrong_list().is_some()
+        | lists.first_wrong_entry().is_some()
         | some_childless(&image)
         | root_wrong(&image)
 }

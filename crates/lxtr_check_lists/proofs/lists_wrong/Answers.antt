@@ -1,7 +1,8 @@
 -- Falling offsets are a fault; if no offset falls, the other tests follow.
-use Rattle.std.proofs.Common.{sym, ◌∙◌, refl, ◌≡◌}
+use Rattle.std.proofs.Common.{sym, ◌∙◌, ap, refl, ◌≡◌}
 use Rattle.lxtr_check_lists.specs.ListTests.{lists_fall, lists_tested}
-use Rattle.lxtr_laws.specs.FirstPlaces.{some_is_any, some_first_in}
+use Rattle.lxtr_check_lists.specs.Entries.{some_entry}
+use Rattle.lxtr_laws.specs.FirstPlaces.{some_first_in}
 use Rattle.lxtr_check_lists.proofs.lists_wrong.Goals as goal
 
 pub returns-in_default : goal.returns-in_default
@@ -12,8 +13,7 @@ returns c =
     let same : c.image-image.result ≡ c.args.slots.now = c.image-image.ensures.value ∙ c.in-Ok.ensures.0 in
     let children = rw same at c.child_count.ensures.value in
     let used = rw same at c.used_count.ensures in
-    let first = rw c.in-Ok.ensures.0 at c.first_wrong_list.ensures in
-    let entries = rw first at c.is_some.ensures in
+    let first = rw c.in-Ok.ensures.0 at c.first_wrong_entry.ensures in
     let lone = rw same at c.some_childless.ensures in
     let root = rw same at c.root_wrong.ensures in
-    lists_tested _ _ (sym c.in-Ok.ensures.1) _ _ _ _ _ refl children used (entries ∙ some_is_any _ _) lone root
+    lists_tested _ _ (sym c.in-Ok.ensures.1) _ _ _ _ _ refl children used (some_entry _ _ _ first c.is_some.ensures) lone root

@@ -1,21 +1,26 @@
--- `find` over the places of the list answers the first of its entries that is wrong. If no offset falls, each entry is a child.
-use Rattle.std.proofs.Common.{rules, tests, ◌+◌, ◌<◌}
-use Rattle.std.proofs.lemmas.Iterator.{serves_from_Range}
-use Rattle.lxtr_spec.specs.Image.{offset, child_count}
-use Rattle.lxtr_spec.specs.Refusals.{entry_wrong_in}
-use Rattle.lxtr_laws.specs.Finds.{found_by}
-use Rattle.lxtr_check_lists.specs.ListTests.{entry_place}
+-- The first list with a wrong entry ends the search.
+use Rattle.std.proofs.Common.{◌+◌, ◌^◌, ◌<◌, arith, rules, below_more}
+use Rattle.lxtr_check_lists.specs.Entries.{entry_fits, entry_found, list_right, entry_none}
 use Rattle.lxtr_check_lists.proofs.Lists.first_wrong_entry.Goals as goal
 
-pub find-requires-clause-callable : goal.find-requires-clause-callable
-find-requires-clause-callable c =
-    let wide = rw c.image-image.ensures.value at c.list_width.ensures in
-    serves_from_Range (λ x q k. search (rules, tests)) (λ x low high.
-    let place : offset c.image-image.result c.args.p + x < child_count c.image-image.result =
-    rw c.image-image.ensures.value (entry_place _ _ x _ c.image-image.ensures.passed c.image-image.ensures.rising c.requires wide high) in
-    search rules)
+pub overflow_add-result : goal.overflow_add-result
+overflow_add-result c =
+    let start = rw c.image-image.ensures.value at c.offset.ensures in
+    let count = rw c.image-image.ensures.value at c.slot_count-p-end.ensures.value in
+    let small = entry_fits _ _ _ (omega arith) c.in-Some.ensures c.image-image.ensures.passed c.image-image.ensures.rising in
+    let here : c.offset.result + c.in-Some.i < 2 ^ 32 = omega arith in
+    search rules
+
+pub returns-in-Some : goal.returns-in-Some
+returns-in-Some c =
+    let start = rw c.image-image.ensures.value at c.offset.ensures in
+    let count = rw c.image-image.ensures.value at c.slot_count-p-end.ensures.value in
+    rw start (entry_found _ _ _ (omega arith) c.in-Some.ensures c.loop-p.invariant)
+
+pub loop-p-preserved : goal.loop-p-preserved
+loop-p-preserved c = below_more _ _ c.loop-p.invariant (list_right _ _ c.in_default.ensures)
 
 pub returns : goal.returns
 returns c =
-    let wide = rw c.image-image.ensures.value at c.list_width.ensures in
-    rw (← wide) (found_by _ (entry_wrong_in c.args.self.now c.args.p) _ _ _ c.find.ensures.ran (λ x b q k. search (rules, tests)))
+    let count = rw c.image-image.ensures.value at c.slot_count-p-end.ensures.value in
+    entry_none _ (λ k l. c.loop-p.invariant k (omega arith))
