@@ -1,3 +1,2 @@
--- Typing positions: what the structs mean, and laws of the moves as the code makes them.
+-- What a position means.
 pub mod Means
-pub mod Moves

@@ -10,18 +10,24 @@ const WALKED_UNIT: u64 = 0x1_0000_0000;
 
 const TYPED_UNIT: u64 = 0x1_0000_0000_0000;
 
-pub fn position_number(position: Position) -> u64
-    ensures { result ≡ position_number (position_means position) }
-{
-    position.slot as u64 + position.walked as u64 * WALKED_UNIT + position.typed as u64 * TYPED_UNIT
+impl From<Position> for u64 {
+    ghost from_gives = { λ p n. n ≡ position_number (position_means p) };
+
+    #[tactic(auto, unfolding(lxtr_spec::specs::HostNumbers::position_number))]
+    fn from(p: Position) -> u64 {
+        p.slot as u64 + p.walked as u64 * WALKED_UNIT + p.typed as u64 * TYPED_UNIT
+    }
 }
 
-pub fn position_of(number: u64) -> Position
-    ensures { position_means result ≡ position_of number }
-{
-    Position {
-        slot: (number % WALKED_UNIT) as u32,
-        walked: (number / WALKED_UNIT % 0x1_0000) as u16,
-        typed: (number / TYPED_UNIT) as u16,
+impl From<u64> for Position {
+    ghost from_gives = { λ n p. position_means p ≡ position_of n };
+
+    #[tactic(auto, unfolding(lxtr_spec::specs::HostNumbers::position_of))]
+    fn from(number: u64) -> Position {
+        Position {
+            slot: (number % WALKED_UNIT) as u32,
+            walked: (number / WALKED_UNIT % 0x1_0000) as u16,
+            typed: (number / TYPED_UNIT) as u16,
+        }
     }
 }
