@@ -2,6 +2,7 @@
 #![tactic(auto)]
 
 ghost use Rattle.std.specs.Prelude.{◌≡◌, length, replicate};
+ghost use Rattle.lxtr_spec.specs.Answers.{refusal_of, answer_or};
 ghost use Rattle.lxtr_spec.specs.KeyLists.{pairs_of};
 ghost use Rattle.lxtr_spec.specs.Builds.{from_keys, build_of};
 ghost use Rattle.lxtr_build_laws.specs.KeyListFacts.{KeysPassed};
@@ -13,19 +14,17 @@ ghost use Rattle.lxtr_build.specs.BuildReturns.{labels_outcome, placed_outcome};
 use lxtr_codes::{TABLE_SIZE, code_map};
 use lxtr_keys::list_refusal;
 use lxtr_place::place_all;
-use lxtr_spec::refusals::{TOO_FEW_SLOTS, TOO_MANY_LABELS, WORK_TOO_SMALL};
-use lxtr_spec::{Built, MAX_LISTED};
+use lxtr_spec::refusals::Refusal;
 use lxtr_write::put_image;
+
+// The fewest words of work: two for each of the slots 0 and 1.
+const MIN_WORDS: usize = 4;
 
 // Sets every word to 0.
 fn clear(work: &mut [u32])
     ensures { work.new ≡ replicate (length work.old) 0 }
 {
-    let mut i = 0;
-    while i < work.len() {
-        work[i] = 0;
-        i += 1;
-    }
+    work.fill(0);
 }
 
 // Builds from keys whose code map is known: places them, and writes the image.
@@ -36,23 +35,18 @@ fn build_mapped(
     order: &[u32],
     work: &mut [u32],
     out: &mut [u8],
-) -> Built
+) -> Result<u32, Refusal>
     requires keys_passed { KeysPassed keys.now }
     requires code_tables { CodeTables (pairs_of keys.now) labels.now codes.now order.now }
     requires cleared { Cleared work.old }
     ensures { Answers (placed_outcome keys.now work.old out.old) out.old result out.new }
 {
-    if !place_all(keys, labels, codes, order, work) {
-        return Built {
-            refusal: TOO_FEW_SLOTS,
-            length: 0,
-        };
-    }
+    place_all(keys, labels, codes, order, work).ok_or(Refusal::TooFewSlots)?;
     put_image(out, work, labels, order)
 }
 
 // Builds from keys that are not refused. The tables have room for one label more than a code map may list.
-fn build_keys(keys: &[u8], work: &mut [u32], out: &mut [u8]) -> Built
+fn build_keys(keys: &[u8], work: &mut [u32], out: &mut [u8]) -> Result<u32, Refusal>
     requires keys_passed { KeysPassed keys.now }
     requires cleared { Cleared work.old }
     ensures { Answers (labels_outcome keys.now work.old out.old) out.old result out.new }
@@ -60,13 +54,7 @@ fn build_keys(keys: &[u8], work: &mut [u32], out: &mut [u8]) -> Built
     let mut labels = [0u32; TABLE_SIZE];
     let mut codes = [0u32; TABLE_SIZE];
     let mut order = [0u32; TABLE_SIZE];
-    let count = code_map(keys, &mut labels, &mut codes, &mut order);
-    if MAX_LISTED < count {
-        return Built {
-            refusal: TOO_MANY_LABELS,
-            length: 0,
-        };
-    }
+    let count = code_map(keys, &mut labels, &mut codes, &mut order)?;
     build_mapped(
         keys,
         &labels[..count],
@@ -78,27 +66,21 @@ fn build_keys(keys: &[u8], work: &mut [u32], out: &mut [u8]) -> Built
 }
 
 // Builds with work that is all zero, and leaves the work as placing filled it.
-fn build_cleared(keys: &[u8], work: &mut [u32], out: &mut [u8]) -> Built
+fn build_cleared(keys: &[u8], work: &mut [u32], out: &mut [u8]) -> Result<u32, Refusal>
     requires { Cleared work.old }
     ensures { Answers (from_keys (length work.old) (length out.old) keys.now) out.old result out.new }
 {
-    let refusal = list_refusal(keys);
-    if refusal != 0 {
-        return Built { refusal, length: 0 };
-    }
+    list_refusal(keys)?;
     build_keys(keys, work, out)
 }
 
 // Builds the image of a key list at the front of the output. Returns its length, or a refusal, which leaves the output untouched.
 // The work is zero afterwards, except after refusal 21, which leaves it.
-pub fn build(keys: &[u8], work: &mut [u32], out: &mut [u8]) -> Built
-    ensures { record { answer = result; output = out.new; work = work.new } ≡ build_of keys.now work.old out.old }
+pub fn build(keys: &[u8], work: &mut [u32], out: &mut [u8]) -> Result<u32, Refusal>
+    ensures { record { answer = record { refusal = refusal_of result; length = answer_or 0 result }; output = out.new; work = work.new } ≡ build_of keys.now work.old out.old }
 {
-    if work.len() < 4 {
-        return Built {
-            refusal: WORK_TOO_SMALL,
-            length: 0,
-        };
+    if work.len() < MIN_WORDS {
+        return Err(Refusal::WorkTooSmall);
     }
     clear(work);
     let built = build_cleared(keys, work, out);
