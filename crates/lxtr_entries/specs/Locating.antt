@@ -13,7 +13,6 @@ use Rattle.lxtr_spec.specs.declared.Case.TheVariants.{Neither}
 use Rattle.lxtr_spec.specs.declared.refusals.Refusal.{Refusal}
 use Rattle.lxtr_laws.specs.Failures.{number_not_0}
 use Rattle.lxtr_laws.specs.RefusalChains.{first_stands}
-use Rattle.std.specs.Borrow.{Bor}
 use Rattle.lxtr_entries_spec.specs.declared.Entries.{Entries}
 use Rattle.lxtr_entries_spec.specs.declared.EntryRefusal.{EntryRefusal}
 use Rattle.lxtr_entries_spec.specs.EntryTables.{entry_number, entry_size, value_count, table_offset, entries_at, entry_count, entry_bytes, own_count, form_wrong, falls, pair_wrong, value_beyond}
@@ -34,11 +33,6 @@ module _ (first count : ℕ) where
 abbrev pub found_in : Result Entries EntryRefusal → Located
 found_in (Err r) = nowhere (entry_number r)
 found_in (Ok e) = record { refusal = 0; valued = true; first = e.first; count = e.count }
-
--- the part that is handed back; empty after a refusal
-abbrev pub part_in : Result (Bor (List ℕ)) EntryRefusal → List ℕ
-part_in (Err r) = []
-part_in (Ok p) = p.now
 
 -- the refusals of image, query and the table's form
 unfoldable pub asked_refusal : List ℕ → List ℕ → List ℕ → ℕ

@@ -8,12 +8,14 @@ ghost use Rattle.std.specs.Prelude.{◌≡◌, IfOk};
 ghost use Rattle.lxtr_spec.specs.Answers.{number_by, answer_or};
 ghost use Rattle.lxtr_entries_spec.specs.EntryTables.{entry_number, table_verdict_of};
 ghost use Rattle.lxtr_entries_spec.specs.EntryLookups.{query_value, located_in, located_of, entries_of};
-ghost use Rattle.lxtr_entries.specs.Locating.{asked_refusal, part_in};
+ghost use Rattle.lxtr_search.specs.Answers.{part_given};
+ghost use Rattle.lxtr_entries.specs.Locating.{asked_refusal};
 
 use crate::tables::EntryTable;
 use lxtr_entries_spec::{Entries, EntryRefusal};
 use lxtr_highest::highest;
-use lxtr_search::{lookup, value_of};
+use lxtr_search::cases::value;
+use lxtr_search::lookup;
 
 // The check of a table for an image: whether it is well-formed and has a list of entries for each value of the image; and how many
 // entries it has.
@@ -36,7 +38,7 @@ fn ask<'a>(
 {
     let case = lookup(image, query)?;
     let table = EntryTable::read(table)?;
-    Ok((table, value_of(case)))
+    Ok((table, value(case)))
 }
 
 // Where the entries of the query lie in the table, if it has a value.
@@ -52,7 +54,7 @@ pub fn locate(image: &[u8], query: &[u8], table: &[u8]) -> Result<Option<Entries
 
 // The entries of the query, as a part of the lent table; empty if it has none or has no value.
 pub fn entries<'a>(image: &[u8], query: &[u8], table: &'a [u8]) -> Result<&'a [u8], EntryRefusal>
-    ensures { record { refusal = number_by entry_number result; part = part_in result } ≡ entries_of image.now query.now table.now }
+    ensures { record { refusal = number_by entry_number result; part = part_given result } ≡ entries_of image.now query.now table.now }
 {
     let (table, value) = ask(image, query, table)?;
     match value {

@@ -1,4 +1,5 @@
 -- Laws of the code of romaji typing.
+pub mod Errors
 pub mod Labels
 pub mod Tables
 pub mod Texts

@@ -1,6 +1,6 @@
 -- The piece at a place of the text, as the code finds it: by a query of the first bytes from there on.
 -- No key is longer than the bytes looked at, and a text of which more is left than can be kept is not kept.
-use Rattle.std.specs.Prelude.{ℕ, ◌+◌, ◌-◌, ◌*◌, ◌/◌, ◌%◌, ◌≤◌, ◌<◌, min, ◌≡◌, Bool, ◌&&◌, not, take, drop, get_or, Option, Some, None}
+use Rattle.std.specs.Prelude.{ℕ, ◌+◌, ◌-◌, ◌*◌, ◌^◌, ◌/◌, ◌%◌, ◌≤◌, ◌<◌, min, ◌≡◌, Bool, ◌&&◌, take, drop, get_or, Option, Some, None}
 use Rattle.std.proofs.Common.{arith, ◌∙◌, true≢false, length-append, length-drop, take_all, length-take-le, Fits}
 use Rattle.std.proofs.Math.Path.{refl, sym, ap}
 use Rattle.std.proofs.Math.Bool.{true, false}
@@ -9,18 +9,27 @@ use Rattle.std.proofs.Math.ListN.{length, length-take}
 use Rattle.std.proofs.lemmas.List.{take-append-le}
 use Rattle.std.proofs.Math.Dec.{leb}
 use Rattle.std.specs.Int.{w64}
+use Rattle.std.proofs.Common.{drop-drop}
+use borrow.Rule.Slice.PartMut.{put_mid}
 use borrow.Author.Tests.{leb-true}
-use Rattle.lxtr_spec.specs.Numbers.{be_bytes, be_words}
+use Rattle.lxtr_spec.specs.Numbers.{be32, be_bytes, be_words}
 use Rattle.lxtr_spec.specs.Labels.{max_labels, labels_of}
+use Rattle.std.specs.Prelude.{Result, Ok, Err}
+use Rattle.std.specs.Borrow.{Bor}
+use Rattle.std.specs.Result.{result_unwrap_or}
+use Rattle.lxtr_spec.specs.Answers.{refusal_of}
+use Rattle.lxtr_spec.specs.declared.refusals.Refusal.{Refusal}
+use Rattle.lxtr_search.specs.Answers.{part_given}
 use Rattle.lxtr_spec.specs.Searches.{LongestAnswer, case_value, case_longer, lookup_of, longest_length, longest_of}
-use Rattle.lxtr_spec.specs.Searches.{Lookup}
+use Rattle.lxtr_laws.specs.QueryLabels.{label_count_lem, label_read}
+use Rattle.lxtr_laws.specs.ReadBack.{be_back}
 use Rattle.lxtr_laws.specs.ByteOrders.{big, words_size, words_one}
 use Rattle.lxtr_laws.specs.Overlays.{over}
 use Rattle.romaji_spec.specs.KanaTables.{text_bytes, kana_of}
 use Rattle.romaji_spec.specs.Pieces.{max_kept, could_grow, matched, matched_value, piece_by, piece_at, piece_text, piece_out}
 use Rattle.romaji_spec.specs.Typing.{is_value, has_empty_key}
 use Rattle.romaji_laws.specs.Steps.{Keeps, GoesOn}
-use Rattle.romaji.specs.Labels.{LabelsPut, labels_start, labels_place, labels_next, labels_end}
+use Rattle.romaji.specs.declared.pieces.Piece.{Piece}
 use Rattle.romaji.specs.Tables.{take_least}
 
 -- ---- the longest key at the front of a query
@@ -30,38 +39,38 @@ abbrev pub size_by : ℕ → Option ℕ → ℕ
 size_by m None = 1
 size_by m (Some v) = m / 4
 
--- what was found: n labels with the value o
-pub record Looked (b q : List ℕ) (n : ℕ) (o : Option ℕ) : Type 0 where
-  pub value : o ≡ case_value (lookup_of b (longest_of b q).part).case
-  pub size : n ≡ size_by (length (longest_of b q).part) o
-  pub moves : 1 ≤ n
+-- what was found
+pub record Looked (b q : List ℕ) (p : Piece) : Type 0 where
+  pub value : p.value ≡ case_value (lookup_of b (longest_of b q).part).case
+  pub size : p.length ≡ size_by (length (longest_of b q).part) p.value
+  pub moves : 1 ≤ p.length
 
--- part is what `longest` handed back, e what `lookup` answered for it, and f its value
-module _ (b q : List ℕ) (no_empty : has_empty_key b ≡ false) (whole : length q % 4 ≡ 0) (k : ℕ) (part : List ℕ) (longest : ◌≡◌ {A = LongestAnswer} (record { refusal = k; part = part }) (longest_of b q))
-    (e : Lookup) (known : e ≡ lookup_of b part) (f : Option ℕ) (value : f ≡ case_value e.case) where
-  is_part : part ≡ (longest_of b q).part
-  is_part = ap (λ (a : LongestAnswer). a.part) longest
+-- what `longest` hands back, or an empty part if it refuses
+pub longest_part : (b q : List ℕ) (r : Result (Bor (List ℕ)) Refusal) → ◌≡◌ {A = LongestAnswer} (record { refusal = refusal_of r; part = part_given r }) (longest_of b q)
+    → (p other : Bor (List ℕ)) → other.now ≡ [] → p ≡ result_unwrap_or r other → p.now ≡ (longest_of b q).part
+longest_part b q (Ok x) known p other none e = rw e (ap (λ (a : LongestAnswer). a.part) known)
+longest_part b q (Err x) known p other none e = rw (e, none) (ap (λ (a : LongestAnswer). a.part) known)
 
-  value_known : f ≡ case_value (lookup_of b part).case
-  value_known = value ∙ ap (λ (a : Lookup). case_value a.case) known
-
+-- part is what `longest` handed back, and f the value that a lookup gives for it
+module _ (b q : List ℕ) (no_empty : has_empty_key b ≡ false) (whole : length q % 4 ≡ 0) (part : List ℕ) (longest : part ≡ (longest_of b q).part)
+    (f : Option ℕ) (value : f ≡ case_value (lookup_of b part).case) where
   is_value_lem : f ≡ case_value (lookup_of b (longest_of b q).part).case
-  is_value_lem = value_known ∙ ap (λ (p : List ℕ). case_value (lookup_of b p).case) is_part
+  is_value_lem = value ∙ ap (λ (p : List ℕ). case_value (lookup_of b p).case) longest
 
-  pub looked_none : f ≡ None → Looked b q 1 None
-  looked_none h = record { value = sym (h) ∙ is_value_lem; size = refl; moves = omega arith }
+  pub looked_none : f ≡ None → Looked b q (record { length = 1; value = None })
+  looked_none h = record { value = sym h ∙ is_value_lem; size = refl; moves = omega arith }
 
   -- the part is whole labels, as the query is
   part_size : 1 ≤ length part → 4 ≤ length part
   unfolding longest_of
-  part_size h = omega (arith, ap length is_part, length-take (4 * longest_length b q) q)
+  part_size h = omega (arith, ap length longest, length-take (4 * longest_length b q) q)
 
-  pub looked_some : (v : ℕ) → f ≡ Some v → Looked b q (length part / 4) (Some v)
+  pub looked_some : (v : ℕ) → f ≡ Some v → Looked b q (record { length = length part / 4; value = Some v })
   unfolding has_empty_key is_value
   looked_some v h = record {
-    value = sym (h) ∙ is_value_lem;
-    size = ap (λ (p : List ℕ). length p / 4) is_part;
-    moves = go part refl value_known;
+    value = sym h ∙ is_value_lem;
+    size = ap (λ (p : List ℕ). length p / 4) longest;
+    moves = go part refl value;
   }
     where
       go : (p : List ℕ) → part ≡ p → f ≡ case_value (lookup_of b part).case → 1 ≤ length part / 4
@@ -70,38 +79,24 @@ module _ (b q : List ℕ) (no_empty : has_empty_key b ≡ false) (whole : length
 
 -- ---- the piece at the front of a query, and at a place of the text
 
--- length and value of the piece; length 0: it is kept back
-pub data FrontIs (keeping : Bool) (b q : List ℕ) : ℕ → Option ℕ → Type 0 where
-  waits : (keeping && case_longer (lookup_of b q).case) ≡ true → FrontIs keeping b q 0 None
-  looked : {n : ℕ} {o : Option ℕ} → (keeping && case_longer (lookup_of b q).case) ≡ false → Looked b q n o → FrontIs keeping b q n o
+-- none: it is kept back
+pub data FrontIs (keeping : Bool) (b q : List ℕ) : Option Piece → Type 0 where
+  waits : (keeping && case_longer (lookup_of b q).case) ≡ true → FrontIs keeping b q None
+  looked : {p : Piece} → (keeping && case_longer (lookup_of b q).case) ≡ false → Looked b q p → FrontIs keeping b q (Some p)
 
-pub data NextIs (keeping : Bool) (b r : List ℕ) : ℕ → Option ℕ → Type 0 where
-  stays : Keeps keeping b r → NextIs keeping b r 0 None
-  goes : {n : ℕ} {o : Option ℕ} → GoesOn keeping b r → 1 ≤ n → n ≡ length (piece_text (piece_at b r)) → o ≡ matched_value b r → NextIs keeping b r n o
+-- r is the text from the place on; none: there is no more of it, or it is kept back
+pub data NextIs (keeping : Bool) (b r : List ℕ) : Option Piece → Type 0 where
+  ends : length r ≤ 0 → NextIs keeping b r None
+  stays : Keeps keeping b r → NextIs keeping b r None
+  goes : {p : Piece} → 1 ≤ length r → GoesOn keeping b r → 1 ≤ p.length → p.length ≡ length (piece_text (piece_at b r)) → p.value ≡ matched_value b r → NextIs keeping b r (Some p)
 
--- without `keeping` nothing waits; a is what `lookup` answered, and l whether longer keys exist
-module _ (keeping : Bool) (b q : List ℕ) where
-  pub never_waits : not keeping ≡ true → false ≡ (keeping && case_longer (lookup_of b q).case)
-  never_waits h = go keeping h
-    where
-      go : (t : Bool) → not t ≡ true → false ≡ (t && case_longer (lookup_of b q).case)
-      go false e = refl
-      go true e = absurd (true≢false (sym e))
+-- w is what the code's test returned
+module _ (keeping : Bool) (b q : List ℕ) (w : Bool) (known : w ≡ (keeping && case_longer (lookup_of b q).case)) where
+  pub front_waits : w ≡ true → FrontIs keeping b q None
+  front_waits h = waits (sym known ∙ h)
 
-  pub longer_waits : (a : Lookup) (l : Bool) → not keeping ≡ false → a ≡ lookup_of b q → l ≡ case_longer a.case → l ≡ (keeping && case_longer (lookup_of b q).case)
-  longer_waits a l h known e = go keeping h
-    where
-      go : (t : Bool) → not t ≡ false → l ≡ (t && case_longer (lookup_of b q).case)
-      go true f = e ∙ ap (λ (r : Lookup). case_longer r.case) known
-      go false f = absurd (true≢false f)
-
-  -- w is what the code's test returned
-  module _ (w : Bool) (known : w ≡ (keeping && case_longer (lookup_of b q).case)) where
-    pub front_waits : w ≡ true → FrontIs keeping b q 0 None
-    front_waits h = waits (sym known ∙ h)
-
-    pub front_goes : (n : ℕ) (o : Option ℕ) → w ≡ false → Looked b q n o → FrontIs keeping b q n o
-    front_goes n o h l = looked (sym known ∙ h) l
+  pub front_goes : (p : Piece) → w ≡ false → Looked b q p → FrontIs keeping b q (Some p)
+  front_goes p h l = looked (sym known ∙ h) l
 
 -- the bytes of a text from a place on, as a query at the front of an array
 query_part : (z xs q : List ℕ) (m : ℕ) → q ≡ over z 0 (be_words xs) → m ≡ length xs → take (4 * m) q ≡ be_words xs
@@ -132,34 +127,27 @@ module _ (b r : List ℕ) where
       go false e = refl
       go true e = ap (λ (xs : List ℕ). case_longer (lookup_of b (be_words xs)).case) (sym (take_all max_labels r (omega (arith, leb-true (length r) max_kept e))))
 
-  next_is : (keeping : Bool) (n : ℕ) (o : Option ℕ) → FrontIs (keeping && leb (length r) max_kept) b query n o → NextIs keeping b r n o
+  next_is : (keeping : Bool) (o : Option Piece) → 1 ≤ length r → FrontIs (keeping && leb (length r) max_kept) b query o → NextIs keeping b r o
   unfolding piece_at matched_value matched
-  next_is keeping n o (waits e) = stays (grows_by keeping ∙ e)
-  next_is keeping n o (looked e l) =
-      goes (grows_by keeping ∙ e) l.moves (size_by_lem (length (matched b r)) n (matched_value b r) few_matched (l.size ∙ ap (size_by (length (matched b r))) l.value)) l.value
+  next_is keeping None some (waits e) = stays (grows_by keeping ∙ e)
+  next_is keeping (Some p) some (looked e l) =
+      goes some (grows_by keeping ∙ e) l.moves (size_by_lem (length (matched b r)) p.length (matched_value b r) few_matched (l.size ∙ ap (size_by (length (matched b r))) l.value)) l.value
 
--- l is the length of the text, m how many bytes are looked at, q the array with the query of them
-module _ (keeping : Bool) (b kept typed : List ℕ) (at l m : ℕ) (z q : List ℕ) (size : l ≡ length kept + length typed) (here : at < length kept + length typed)
-    (count : m ≡ min max_labels (l - at)) where
-  pub looks_within : at + m ≤ length kept + length typed
-  looks_within = omega arith
-
+-- t is the text, m how many bytes are looked at, q the array with the query of them
+module _ (t : List ℕ) (at m k : ℕ) (z q : List ℕ) (here : at < length t) (count : m ≡ min (length t - at) max_labels) (same : k ≡ m) (put : q ≡ over z 0 (be_words (take k (drop at t)))) where
   abbrev rest : List ℕ
-  rest = drop at (kept ++ typed)
+  rest = drop at t
 
-  rest_length : length rest ≡ l - at
-  rest_length = omega (arith, length-drop at (kept ++ typed), length-append kept typed)
+  is_query : take (4 * m) q ≡ be_words (take m rest)
+  is_query = query_part z (take m rest) q m (rw same at put) (omega (arith, length-take m rest, length-drop at t))
 
-  is_query : q ≡ over z 0 (be_words (take m rest)) → take (4 * m) q ≡ be_words (take m rest)
-  is_query e = query_part z (take m rest) q m e (omega (arith, length-take m rest, rest_length))
+  pub looks_whole : length (take (4 * m) q) % 4 ≡ 0
+  looks_whole = omega (arith, ap length is_query, words_size big (take m rest))
 
-  pub looks_whole : q ≡ over z 0 (be_words (take m rest)) → length (take (4 * m) q) % 4 ≡ 0
-  looks_whole e = omega (arith, ap length (is_query e), words_size big (take m rest))
-
-  pub next_found : (n : ℕ) (o : Option ℕ) → q ≡ over z 0 (be_words (take m rest)) → FrontIs (keeping && leb (l - at) max_kept) b (take (4 * m) q) n o → NextIs keeping b rest n o
-  next_found n o e f =
-      let same : take m rest ≡ take max_labels rest = take_least rest m max_labels (omega (arith, rest_length)) in
-      next_is b rest keeping n o (rw (rest_length, ← same, ← is_query e) f)
+  pub next_found : (keeping : Bool) (b : List ℕ) (o : Option Piece) → FrontIs (keeping && leb (length t - at) max_kept) b (take (4 * m) q) o → NextIs keeping b rest o
+  next_found keeping b o f =
+      let first : take m rest ≡ take max_labels rest = take_least rest m max_labels (omega (arith, length-drop at t)) in
+      next_is b rest keeping o (omega (arith, length-drop at t)) (rw (length-drop at t, ← first, ← is_query) f)
 
 -- ---- what goes out for a piece
 
@@ -218,24 +206,20 @@ module _ (kana : List ℕ) (f : Option ℕ) (x : ℕ) where
       pub byte_put : (room' : List ℕ) → room' ≡ over room (4 * at) (be_bytes x) → room' ≡ over room (4 * at) (be_words (out_by kana x f))
       byte_put room' e = e ∙ ap (over room (4 * at)) (sym (ap be_words byte_out ∙ words_one big x))
 
--- ---- the labels of a text: the first i of n are in the room
-pub record TextPut (text room : List ℕ) (at n i : ℕ) (room' : List ℕ) : Type 0 where
-  pub count : n ≡ length (labels_of text)
-  pub put : LabelsPut (labels_of text) room at i room'
+-- ---- the labels of a text are its bytes
+module _ (text : List ℕ) (small : (i : ℕ) → i < length text → get_or text i 0 < 2 ^ 8) where
+  text_labels : text ≡ be_words (labels_of text) ++ drop (4 * length (labels_of text)) text
+  text_labels = be_back (labels_of text) text small (omega (arith, label_count_lem text)) (λ j h. label_read text j h (be32 text (4 * j)) refl)
 
-module _ (text room : List ℕ) (at : ℕ) where
-  pub put_start : (n : ℕ) → n ≡ length (labels_of text) → TextPut text room at n 0 room
-  put_start n e = record { count = e; put = labels_start (labels_of text) room at }
+  pub label_bytes : take (4 * length (labels_of text)) text ≡ be_words (labels_of text)
+  label_bytes =
+      let n = 4 * length (labels_of text) in
+      ap (take n) text_labels ∙ take-append-le n (be_words (labels_of text)) (drop n text) (omega (arith, words_size big (labels_of text))) ∙ take_all n (be_words (labels_of text)) (omega (arith, words_size big (labels_of text)))
 
-  module _ (large : 4 * (at + length (labels_of text)) ≤ length room) (n i : ℕ) (room' : List ℕ) (before : TextPut text room at n i room') where
-    pub put_label : i < n → i < length (labels_of text)
-    put_label h = omega (arith, before.count)
-
-    pub put_place : i < n → 4 * at + 4 * i + 4 ≤ length room'
-    put_place h = labels_place (labels_of text) room at large i room' before.put (put_label h)
-
-    pub put_next : (x : ℕ) (room'' : List ℕ) → i < n → x ≡ get_or (labels_of text) i 0 → room'' ≡ over room' (4 * at + 4 * i) (be_bytes x) → TextPut text room at n (i + 1) room''
-    put_next x room'' h is e = record { count = before.count; put = labels_next (labels_of text) room at large i room' before.put room'' (put_label h) (rw (← is) e) }
-
-    pub put_end : n ≤ i → room' ≡ over room (4 * at) (be_words (labels_of text))
-    put_end h = labels_end (labels_of text) room at large i room' before.put (omega (arith, before.count))
+  -- n labels are copied to the place a of the room
+  pub text_copied : (room : List ℕ) (a n k : ℕ) → n ≡ length (labels_of text) → k ≡ 4 * n → (ys : List ℕ) → ys ≡ take (4 * n) text → put_mid a k room ys ≡ over room a (be_words (labels_of text))
+  unfolding over
+  text_copied room a n k count size ys e =
+      let all : ys ≡ be_words (labels_of text) = e ∙ ap (λ (m : ℕ). take (4 * m) text) count ∙ label_bytes in
+      let end : k ≡ length (be_words (labels_of text)) = omega (arith, words_size big (labels_of text)) in
+      rw (all, end) (ap (λ (zs : List ℕ). take a room ++ (be_words (labels_of text) ++ zs)) (drop-drop (length (be_words (labels_of text))) a room))

@@ -2,7 +2,7 @@
 -- whole, and all after it begin past the end too.
 use Rattle.std.specs.Prelude.{ℕ, zero, suc, ◌+◌, ◌-◌, ◌*◌, ◌≤◌, ◌<◌, min, ◌≡◌, Bool, length, take, drop, set, leb, Some, None, Option}
 use native.Mathlib.Omega.{arith}
-use Rattle.std.proofs.Common.{add-one, ap, ◌∙◌, length-append, drop_of_length-le, take_all, take-suc-set}
+use Rattle.std.proofs.Common.{◌≢◌, below_more, get_or-set_other, get_or-set_same, add-one, ap, ◌∙◌, length-append, drop_of_length-le, take_all, take-suc-set}
 use Rattle.std.proofs.Math.Path.{refl, sym, ap₂}
 use Rattle.std.proofs.Math.Bool.{true, false}
 use mathlib.Core.List.{List, [], ◌∷◌, ◌++◌}
@@ -30,20 +30,6 @@ same_test a c d e (less, not-less) = go (ltb a c) refl
     go false h = h ∙ sym (le-ltb d e (not-less (ltb-false a c h)))
 
 module _ (kana : List ℕ) where
-  pub end_none : (at : ℕ) → length kana ≤ at → length kana ≡ min (text_end kana at) (length kana)
-  unfolding text_end
-  end_none at h = omega arith
-
-  -- the text whose length byte is at a place: its labels take n bytes
-  module _ (at n : ℕ) (here : at < length kana) (size : n ≡ 4 * get_or kana at 0) where
-    pub end_past : length kana - (at + 1) < n → length kana ≡ min (text_end kana at) (length kana)
-    unfolding text_end
-    end_past h = omega arith
-
-    pub end_within : n ≤ length kana - (at + 1) → at + 1 + n ≡ min (text_end kana at) (length kana)
-    unfolding text_end
-    end_within h = omega arith
-
   -- the loop: `at` is where the text of value i begins, cut off
   abbrev pub Begins : ℕ → ℕ → Type 0
   Begins i at = at ≡ min (text_at kana i) (length kana)
@@ -92,91 +78,33 @@ module _ (kana : List ℕ) where
     unfolding text_cut text_end
     cut_here n h e = rw (is_place h) (same_test (length kana - (at + 1)) n (length kana) (at + 1 + 4 * get_or kana at 0) (λ l. omega arith, λ l. omega arith))
 
-    pub begins_last : (v value : ℕ) → value ≡ v → i ≤ v → value ≤ i → Begins v at
-    begins_last v value f l h = let e : i ≡ v = omega arith in rw e at begins
-
 -- ---- the places that are kept: of at most so many texts
 
 abbrev pub most_places : ℕ
 most_places = 512
 
-unfoldable pub text_places : List ℕ → ℕ → List ℕ
-text_places kana zero = []
-text_places kana (suc n) = text_places kana n ++ min (text_at kana n) (length kana) ∷ []
+-- the first n places are those of the first n texts, and n is at least 1
+pub record Indexed (kana places : List ℕ) (n : ℕ) : Type 0 where
+  pub some : 1 ≤ n
+  pub within : n ≤ length places
+  pub are : (i : ℕ) → i < n → Begins kana i (get_or places i 0)
 
--- they are those of the first texts, and at least one
-pub record Indexed (kana places : List ℕ) : Type 0 where
-  pub some : 1 ≤ length places
-  pub are : places ≡ text_places kana (length places)
-
-places_length : (kana : List ℕ) (n : ℕ) → length (text_places kana n) ≡ n
-unfolding text_places
-places_length kana zero = refl
-places_length kana (suc n) = length-append (text_places kana n) (min (text_at kana n) (length kana) ∷ []) ∙ rw (places_length kana n) (omega arith)
-
-place_at : (kana : List ℕ) (n i : ℕ) → i < n → Begins kana i (get_or (text_places kana n) i 0)
-unfolding text_places
-place_at kana zero i h = absurd (omega arith)
-place_at kana (suc n) i h = go (ltb i n) refl (place_at kana n i)
-  where
-    go : (t : Bool) → ltb i n ≡ t → (i < n → Begins kana i (get_or (text_places kana n) i 0)) → Begins kana i (get_or (text_places kana (suc n)) i 0)
-    go true e before = get_or-append (text_places kana n) (min (text_at kana n) (length kana) ∷ []) 0 i (rw (places_length kana n) (ltb-true i n e)) ∙ before (ltb-true i n e)
-    go false e before =
-        let l = ltb-false i n e in
-        let same : i ≡ n = omega arith in
-        rw same (get_or_at (text_places kana n) (min (text_at kana n) (length kana)) [] 0 n (places_length kana n))
-
--- value is v, as an index
-module _ (kana places : List ℕ) (kept : Indexed kana places) where
-  kept_at : (i : ℕ) → i < length places → Begins kana i (get_or places i 0)
-  kept_at i h = ap (λ (l : List ℕ). get_or l i 0) kept.are ∙ place_at kana (length places) i h
-
-  pub place_found : (v value : ℕ) → value ≡ v → value < length places → get_or places value 0 ≡ min (text_at kana v) (length kana)
-  place_found v value e h = rw (← e) (kept_at value h)
-
-  pub place_last : length places - 1 < length places
-  place_last = omega (arith, kept.some)
-
-  pub begins_kept : Begins kana (length places - 1) (get_or places (length places - 1) 0)
-  begins_kept = kept_at (length places - 1) place_last
-
--- the first i of n places are in the array
-pub record PlacesPut (kana places₀ : List ℕ) (n i at : ℕ) (places : List ℕ) : Type 0 where
-  pub to : i ≤ n
-  pub same : length places ≡ length places₀
+-- the loop that finds them: the first i are in the array
+pub record PlacesPut (kana : List ℕ) (i at : ℕ) (places : List ℕ) : Type 0 where
+  pub size : length places ≡ most_places
   pub begins : Begins kana i at
-  pub put : take i places ≡ text_places kana i
+  pub are : (k : ℕ) → k < i → Begins kana k (get_or places k 0)
 
-module _ (kana places₀ : List ℕ) (n : ℕ) where
-  pub places_start : PlacesPut kana places₀ n 0 0 places₀
-  unfolding text_places
-  places_start = record { to = omega arith; same = refl; begins = begins_first kana; put = refl }
+module _ (kana : List ℕ) where
+  pub places_start : (places : List ℕ) → length places ≡ most_places → PlacesPut kana 0 0 places
+  places_start places size = record { size = size; begins = begins_first kana; are = λ k h. absurd (omega arith) }
 
-  module _ (room : n ≤ length places₀) (i at : ℕ) (places : List ℕ) (before : PlacesPut kana places₀ n i at places) where
-    pub places_room : i < n → i < length places
-    places_room h = omega (arith, before.same)
-
-    pub places_next : (at' : ℕ) → i < n → at' ≡ min (text_end kana at) (length kana) → PlacesPut kana places₀ n (i + 1) at' (set places i at)
-    unfolding text_places
-    places_next at' h e = record {
-      to = omega arith;
-      same = length-set places i at ∙ before.same;
-      begins = begins_next kana i at before.begins at' e;
-      put = rw (add-one i) (take-suc-set places i at (places_room h) ∙ ap₂ (λ (l : List ℕ) (x : ℕ). l ++ x ∷ []) before.put before.begins);
-    }
-
-    pub places_fit : n ≤ length places
-    places_fit = omega (arith, before.same)
-
-    pub places_end : n ≤ i → take n places ≡ text_places kana n
-    places_end h = let e : i ≡ n = omega (arith, before.to) in rw e at before.put
-
--- the table by its highest value
-module _ (kana : List ℕ) (f : Option ℕ) where
-  pub short_of : (v : ℕ) (t : Bool) → f ≡ Some v → t ≡ text_cut kana v → t ≡ table_short kana f
-  unfolding table_short
-  short_of v t h e = rw h e
-
-  pub short_none : f ≡ None → false ≡ table_short kana f
-  unfolding table_short
-  short_none h = rw h
+  pub places_next : (i at : ℕ) (places : List ℕ) → PlacesPut kana i at places → (at' : ℕ) → at' ≡ min (text_end kana at) (length kana) → i < most_places
+      → PlacesPut kana (i + 1) at' (set places i at)
+  places_next i at places before at' e l = let h : i < length places = omega (arith, before.size) in record {
+    size = length-set places i at ∙ before.size;
+    begins = begins_next kana i at before.begins at' e;
+    are = below_more _ _
+        (λ k m. let ne : k ≢ i = omega arith in rw get_or-set_other (before.are k m))
+        (rw get_or-set_same before.begins);
+  }

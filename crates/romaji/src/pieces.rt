@@ -1,137 +1,131 @@
 // The pieces of a text: the one at a place, how many labels go out for it, and writing them.
-ghost use Rattle.std.specs.Prelude.{◌≡◌, ◌++◌, false, ◌&&◌, ◌+◌, ◌*◌, ◌%◌, ◌≤◌, ◌<◌, length, get_or, drop};
+ghost use Rattle.std.specs.Prelude.{◌≡◌, ◌+◌, ◌*◌, ◌^◌, ◌≤◌, ◌<◌, length, get_or, drop, leb, IfSome};
 ghost use Rattle.lxtr_spec.specs.Numbers.{be_words};
 ghost use Rattle.lxtr_spec.specs.Labels.{labels_of};
-ghost use Rattle.lxtr_spec.specs.Searches.{case_longer, lookup_of};
 ghost use Rattle.lxtr_laws.specs.Overlays.{over};
-ghost use Rattle.romaji_spec.specs.Typing.{has_empty_key};
-ghost use Rattle.romaji.specs.Tables.{Indexed};
-ghost use Rattle.romaji.specs.NextPieces.{Looked, FrontIs, NextIs, out_by};
+ghost use Rattle.romaji.specs.NextPieces.{NextIs, out_by};
+ghost use Rattle.romaji.specs.Progress.{out_of};
+ghost use Rattle.romaji.specs.Writing.{Converts};
 
-use crate::tables::text_bytes;
-use crate::texts::{put_label, put_query, text_length};
-use lxtr_bytes::labels::{label_at, label_count};
-use lxtr_bytes::numbers::{lesser, put_be32};
-use lxtr_search::cases::{found_value, has_longer};
-use lxtr_search::{longest, lookup};
-use lxtr_spec::{MAX_LABELS};
+use crate::keys::Keys;
+use crate::tables::Kana;
+use crate::texts::Text;
+use lxtr_bytes::labels::label_count;
+use lxtr_spec::MAX_LABELS;
 use romaji_spec::MAX_KEPT;
 
-// The piece at a place: its length in bytes, and the value of the key, or none if a byte passes. Length 0: the text is kept from
-// this place on.
-#[derive(Clone, Copy)]
-pub struct Next {
+// A piece of the text: its length in bytes, and the value of the key, or none if it is a byte that passes.
+#[derive(Clone, Copy, Debug, PartialEq, Eq)]
+pub struct Piece {
     pub length: usize,
     pub value: Option<u32>,
 }
 
-// Whether a query is kept back: with `keeping`, if it is a proper front part of a key.
-fn waits(image: &[u8], query: &[u8], keeping: bool) -> bool
-    ensures { result ≡ (keeping && case_longer (lookup_of image.now query.now).case) }
-{
-    if !keeping {
-        return false;
-    }
-    has_longer(lookup(image, query))
+// A text to be converted by these keys and this table; with `keeping`, a rest that could still grow is kept.
+#[derive(Drop)]
+pub struct Conversion<'a> {
+    pub keys: Keys<'a>,
+    pub kana: Kana<'a>,
+    pub text: Text<'a>,
+    pub keeping: bool,
 }
 
-// The longest key at the front of a query, or one label if there is none.
-fn longest_key(image: &[u8], query: &[u8]) -> Next
-    requires image_value { has_empty_key image.now ≡ false }
-    requires query_len { length query.now % 4 ≡ 0 }
-    ensures { Looked image.now query.now result.length result.value }
-{
-    let mut refusal: u8 = 0;
-    let part = longest(image, query, &mut refusal);
-    let Some(v) = found_value(lookup(image, part)) else {
-        return Next {
-            length: 1,
-            value: None,
-        };
-    };
-    Next {
-        length: part.len() / 4,
-        value: Some(v),
-    }
+// How far the text was converted: to place `at`, with `count` labels.
+#[derive(Clone, Copy, Debug, PartialEq, Eq)]
+pub struct Converted {
+    pub at: usize,
+    pub count: usize,
 }
 
-// The piece at the front of a query.
-fn front_piece(image: &[u8], query: &[u8], keeping: bool) -> Next
-    requires image_value { has_empty_key image.now ≡ false }
-    requires query_len { length query.now % 4 ≡ 0 }
-    ensures { FrontIs keeping image.now query.now result.length result.value }
-{
-    if waits(image, query, keeping) {
-        return Next {
-            length: 0,
-            value: None,
-        };
-    }
-    longest_key(image, query)
-}
-
-// The piece at place `at` of the text. With `keeping`, a rest that could still grow is kept.
-pub fn next_piece(image: &[u8], kept: &[u8], typed: &[u8], at: usize, keeping: bool) -> Next
-    requires image_value { has_empty_key image.now ≡ false }
-    requires at_in_bounds { at < length kept.now + length typed.now }
-    ensures { NextIs keeping image.now (drop at (kept.now ++ typed.now)) result.length result.value }
-{
-    let left = text_length(kept, typed) - at;
-    // no key is longer than these bytes
-    let count = lesser(MAX_LABELS, left);
-    let mut query = [0u8; 4 * MAX_LABELS];
-    put_query(kept, typed, at, count, &mut query);
-    let end = 4 * count;
-    front_piece(image, &query[..end], keeping & (left <= MAX_KEPT))
-}
-
-// How many labels go out for a piece: for the text of a value, or for a byte that passes.
-pub fn out_count(kana: &[u8], places: &[usize], value: Option<u32>) -> usize
-    requires { Indexed kana.now places.now }
-    ensures { result ≡ length (out_by kana.now 0 value) }
-{
-    match value {
-        Some(v) => label_count(text_bytes(kana, places, v)),
-        None => 1,
-    }
-}
-
-// Writes the labels of `text` into the room, starting at label `at`.
+// Writes the labels of `text` into the room, starting at label `at`. Both have four big-endian bytes for a label.
 fn put_text(text: &[u8], room: &mut [u8], at: usize)
     requires { 4 * (at + length (labels_of text.now)) ≤ length room.old }
     ensures { room.new ≡ over room.old (4 * at) (be_words (labels_of text.now)) }
 {
-    let count = label_count(text);
-    let mut i = 0;
-    while i < count {
-        put_be32(room, 4 * at + 4 * i, label_at(text, i));
-        i += 1;
-    }
+    let size = 4 * label_count(text);
+    let start = 4 * at;
+    room[start..start + size].copy_from_slice(&text[..size]);
 }
 
-// Writes the labels that go out for the piece at place `at` of the text into the room, starting at label `count`: the text of its
-// value, or the byte there. Returns the number of labels with them.
-pub fn put_piece(
-    kana: &[u8],
-    places: &[usize],
-    value: Option<u32>,
-    kept: &[u8],
-    typed: &[u8],
-    at: usize,
-    room: &mut [u8],
-    count: usize,
-) -> usize
-    requires indexed { Indexed kana.now places.now }
-    requires at_in_bounds { at < length kept.now + length typed.now }
-    requires value_in_bounds { 4 * (count + length (out_by kana.now (get_or (kept.now ++ typed.now) at 0) value)) ≤ length room.old }
-    ensures value { result ≡ count + length (out_by kana.now (get_or (kept.now ++ typed.now) at 0) value) }
-    ensures room_after { room.new ≡ over room.old (4 * count) (be_words (out_by kana.now (get_or (kept.now ++ typed.now) at 0) value)) }
-{
-    let Some(v) = value else {
-        put_label(kept, typed, at, room, count);
-        return count + 1;
-    };
-    let text = text_bytes(kana, places, v);
-    put_text(text, room, count);
-    count + label_count(text)
+impl<'a> Conversion<'a> {
+    // The piece at place `at` of the text, or none if the text ends there or is kept from there on.
+    fn piece(&self, at: usize) -> Option<Piece>
+        requires { at ≤ length self.now.text }
+        ensures next { NextIs self.now.keeping self.now.keys (drop at self.now.text) result }
+        ensures fits { IfSome result (λ p. at + p.length < 2 ^ 64) }
+    {
+        let left = self.text.len() - at;
+        if left == 0 {
+            return None;
+        }
+        // no key is longer than these bytes
+        let count = left.min(MAX_LABELS);
+        let mut query = [0u8; 4 * MAX_LABELS];
+        self.text.put_query(at, at + count, &mut query);
+        let end = 4 * count;
+        self.keys
+            .front(&query[..end], self.keeping & (left <= MAX_KEPT))
+    }
+
+    // How many labels go out for a piece: for the text of a value, or for a byte that passes.
+    fn out_count(&self, value: Option<u32>) -> usize
+        ensures { result ≡ length (out_by self.now.kana 0 value) }
+    {
+        match value {
+            Some(v) => label_count(self.kana.text(v)),
+            None => 1,
+        }
+    }
+
+    // Writes the labels that go out for the piece at place `at` into the room, starting at label `count`: the text of its value, or
+    // the byte there. Returns the number of labels with them.
+    fn put_piece(&self, at: usize, value: Option<u32>, room: &mut [u8], count: usize) -> usize
+        requires at_in_bounds { at < length self.now.text }
+        requires value_in_bounds { 4 * (count + length (out_by self.now.kana (get_or self.now.text at 0) value)) ≤ length room.old }
+        ensures value { result ≡ count + length (out_by self.now.kana (get_or self.now.text at 0) value) }
+        ensures room_after { room.new ≡ over room.old (4 * count) (be_words (out_by self.now.kana (get_or self.now.text at 0) value)) }
+    {
+        match value {
+            Some(v) => {
+                let text = self.kana.text(v);
+                put_text(text, room, count);
+                count + label_count(text)
+            }
+            None => {
+                self.text.put_label(at, room, count);
+                count + 1
+            }
+        }
+    }
+
+    // Whether at most `room` labels go out for the text. Where the next piece begins is known only when this one is found.
+    pub fn fits(&self, room: usize) -> bool
+        ensures { result ≡ leb (length (out_of self.now.keeping self.now.keys self.now.kana self.now.text)) room }
+    {
+        let mut left = room;
+        let mut at = 0;
+        while let Some(piece) = self.piece(at) {
+            let count = self.out_count(piece.value);
+            if left < count {
+                return false;
+            }
+            left -= count;
+            at += piece.length;
+        }
+        true
+    }
+
+    // Writes the labels that go out for the text to the room's front.
+    pub fn put(&self, room: &mut [u8]) -> Converted
+        requires { 4 * length (out_of self.now.keeping self.now.keys self.now.kana self.now.text) ≤ length room.old }
+        ensures { Converts self.now.keeping self.now.keys self.now.kana self.now.text room.old result.at result.count room.new }
+    {
+        let mut at = 0;
+        let mut count = 0;
+        while let Some(piece) = self.piece(at) {
+            count = self.put_piece(at, piece.value, room, count);
+            at += piece.length;
+        }
+        Converted { at, count }
+    }
 }

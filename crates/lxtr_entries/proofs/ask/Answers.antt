@@ -17,4 +17,4 @@ pub returns-clause-refusal : goal.returns-clause-refusal
 returns-clause-refusal c = ask_told _ _ _ _ c.in_ok-case.ensures _ (goes_on _ 26 0 0 c.in_ok-table.ensures.1 refl)
 
 pub returns-clause-asked : goal.returns-clause-asked
-returns-clause-asked c = (c.in_ok-table.ensures.0, c.value_of.ensures ∙ ask_value _ _ c.args.table.now _ c.in_ok-case.ensures)
+returns-clause-asked c = (c.in_ok-table.ensures.0, c.value.ensures ∙ ask_value _ _ c.args.table.now _ c.in_ok-case.ensures)
