@@ -6,7 +6,6 @@ ghost use Rattle.std.specs.Prelude.{◌≤◌, length, IfOk, IfSome};
 use lxtr_bytes::heads::HEAD_LENGTH;
 use lxtr_messages::{Sentence, printed, say, tell};
 use lxtr_output::STANDARD_ERROR;
-use lxtr_output::parts::{find, front};
 use lxtr_spec::{MAX_LISTED, MAX_SLOTS};
 use lxtr_text::Line;
 use std::env::{Env, FillError};
@@ -35,11 +34,10 @@ const NOT_TEXT: i32 = 84;
 
 // A reason without the number of the system's error, which follows in brackets.
 fn without_number(reason: &[u8]) -> &[u8] {
-    let end = find(reason, 0, b'(');
-    if end < reason.len() {
-        return front(reason, end.saturating_sub(1));
+    match reason.iter().position(|c| *c == b'(') {
+        Some(at) => reason.get(..at.saturating_sub(1)).unwrap_or(reason),
+        None => reason,
     }
-    reason
 }
 
 // Prints the reason of a system error.

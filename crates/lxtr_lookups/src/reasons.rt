@@ -3,19 +3,17 @@
 use crate::{end_found, print_word};
 use lxtr_lines::key_line;
 use lxtr_messages::{Sentence, print_text, printed, refuse, say, tell};
-use lxtr_output::parts::{front, part};
 use lxtr_output::print;
 use lxtr_spec::{MAX_LABELS, Reason};
 use lxtr_text::LINE_ROOM;
 
 // The label at a place of a query, and the labels before it.
 fn label_of(query: &[u8], place: u32) -> &[u8] {
-    let at = 4 * place as usize;
-    part(query, at, at + 4)
+    query.chunks(4).nth(place as usize).unwrap_or(b"")
 }
 
 fn labels_before(query: &[u8], place: u32) -> &[u8] {
-    front(query, 4 * place as usize)
+    query.get(..4 * place as usize).unwrap_or(query)
 }
 
 // Prints the place at which the walk stops, and the label there.

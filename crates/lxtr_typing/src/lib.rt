@@ -4,7 +4,6 @@
 
 use lxtr_lines::keys::{append_labels, append_spaced};
 use lxtr_messages::{Sentence, print_text, refuse, refuse_at, say};
-use lxtr_output::parts::{front, part};
 use lxtr_output::print;
 use lxtr_spec::MAX_LABELS;
 use lxtr_text::{LINE_ROOM, Line};
@@ -58,7 +57,7 @@ fn print_labels(some: Sentence, none: Sentence, labels: &[u8]) {
 
 // The first `count` labels of a room. They always lie in it; the test only makes the bound provable.
 fn first_labels(room: &[u8], count: usize) -> &[u8] {
-    front(room, count.saturating_mul(4))
+    room.get(..count.saturating_mul(4)).unwrap_or(room)
 }
 
 // Prints what the state keeps: each byte is the label of its number.
@@ -97,7 +96,11 @@ fn type_in(image: &[u8], kana: &[u8], text: &[u8], room: &mut [u8; OUT_ROOM]) {
     match romaji::type_bytes(image, kana, &mut state, text, room) {
         Err(refusal) => refuse_at(refusal, lxtr_fault::fault(image)),
         Ok(count) => {
-            print_labels(Sentence::Out, Sentence::NothingOut, first_labels(room, count));
+            print_labels(
+                Sentence::Out,
+                Sentence::NothingOut,
+                first_labels(room, count),
+            );
             print_kept(state);
             finish_in(image, kana, &mut state, room);
         }

@@ -17,22 +17,12 @@ pub const FILLING_BYTE: u8 = 0xEE;
 
 // Whether the bytes from position `from` to the end are still the filling.
 pub fn is_left(out: &[u8; OUTPUT_ROOM], from: usize) -> bool {
-    let mut same = true;
-    let mut i: usize = 0;
-    while i < OUTPUT_ROOM {
-        same = same & ((i < from) | (out[i] == FILLING_BYTE));
-        i += 1;
-    }
-    same
+    out.iter().skip(from).all(|byte| *byte == FILLING_BYTE)
 }
 
 // Whether the first `count` words are equal to `word`, and no others are.
 pub fn words_are(work: &[u32; WORK_WORDS], count: usize, word: u32) -> bool {
-    let mut same = true;
-    let mut i: usize = 0;
-    while i < WORK_WORDS {
-        same = same & ((work[i] == word) == (i < count));
-        i += 1;
-    }
-    same
+    work.iter()
+        .enumerate()
+        .all(|(i, x)| (*x == word) == (i < count))
 }
