@@ -7,29 +7,29 @@ ghost use Rattle.std.specs.Prelude.{◌≡◌};
 ghost use Rattle.lxtr_spec.specs.FaultPlaces.{fault_of};
 
 use crate::list_faults::list_fault;
-use lxtr_check::image_refusal;
 use lxtr_check_labels::first_wrong_label;
+use lxtr_check_lists::lists_wrong;
 use lxtr_check_reach::first_unreachable;
-use lxtr_check_slots::first_wrong_slot;
+use lxtr_check_slots::Slots;
+use lxtr_header::read;
 use lxtr_spec::Fault;
-use lxtr_spec::refusals::{WRONG_LABELS, WRONG_LISTS, WRONG_SLOTS};
 
-// Where the fault lies: for refusals 9 to 12, the first place at which the rule does not hold; otherwise nowhere.
-pub fn fault(image: &[u8]) -> Fault
+// Where the fault lies: for refusals 9 to 12, the first place at which the rule does not hold.
+pub fn fault(image: &[u8]) -> Option<Fault>
     ensures { result ≡ fault_of image.now }
 {
-    let refusal = image_refusal(image);
-    if refusal < WRONG_LABELS {
-        return Fault::Nowhere;
+    let Ok(image) = read(image) else {
+        return None;
+    };
+    if let Some(i) = first_wrong_label(&image) {
+        return Some(Fault::Label(i));
     }
-    if refusal == WRONG_LABELS {
-        return Fault::Label(first_wrong_label(image));
+    let slots = match Slots::check(&image) {
+        Ok(slots) => slots,
+        Err(s) => return Some(Fault::Slot(s)),
+    };
+    if lists_wrong(&slots) {
+        return Some(list_fault(&slots));
     }
-    if refusal == WRONG_SLOTS {
-        return Fault::Slot(first_wrong_slot(image));
-    }
-    if refusal == WRONG_LISTS {
-        return list_fault(image);
-    }
-    Fault::Unreachable(first_unreachable(image))
+    first_unreachable(&slots).map(Fault::Unreachable)
 }

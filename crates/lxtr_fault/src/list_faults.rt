@@ -1,125 +1,81 @@
 // Where a children list is wrong: the place of a fault of rule 11.
-ghost use Rattle.std.specs.Prelude.{◌≡◌, false, ◌+◌, ◌<◌};
-ghost use Rattle.lxtr_spec.specs.Ranges.{any_below, first_below};
+ghost use Rattle.std.specs.Prelude.{◌≡◌, ◌+◌, ◌<◌};
+ghost use Rattle.lxtr_spec.specs.Ranges.{any_below};
 ghost use Rattle.lxtr_spec.specs.Image.{slot_count, child_count, offset, list_width};
-ghost use Rattle.lxtr_spec.specs.Refusals.{slots_wrong, offset_falls, childless};
-ghost use Rattle.lxtr_spec.specs.FaultPlaces.{entry_fault_of, is_entry, unlisted, list_fault};
-ghost use Rattle.lxtr_laws.specs.Passed.{Whole, Passed};
+ghost use Rattle.lxtr_spec.specs.Refusals.{childless};
+ghost use Rattle.lxtr_spec.specs.FaultPlaces.{is_entry, unlisted, list_fault};
+ghost use Rattle.lxtr_laws.specs.FirstPlaces.{first_in};
 
-use lxtr_check_lists::{childless, first_falling, first_wrong_entry, first_wrong_list, used_count};
-use lxtr_check_slots::is_used_from_2;
-use lxtr_image::lists::{child_at, list_width, offset_at};
-use lxtr_image::nodes::parent_of;
-use lxtr_image::sections::{child_count, slot_count};
+use lxtr_check_lists::{Lists, childless, used_count};
+use lxtr_check_slots::{Slots, is_used_from_2};
+use lxtr_image::Image;
 use lxtr_spec::Fault;
 
-// The first wrong entry of the list of slot p, given by its place in the children array.
-fn entry_fault(image: &[u8], p: u32) -> Fault
-    requires passed { Passed image.now }
-    requires image_value { any_below (slot_count image.now) (offset_falls image.now) ≡ false }
-    requires p_bound { p < slot_count image.now }
-    ensures { result ≡ entry_fault_of image.now p }
-{
-    Fault::Entry(p, offset_at(image, p) + first_wrong_entry(image, p))
-}
-
 // Whether entry i of the list of slot p, counted from the start of the list, is slot s.
-fn is_entry(image: &[u8], p: u32, s: u32, i: u32) -> bool
-    requires whole { Whole image.now }
+#[tactic(auto, unfolding(lxtr_spec::specs::FaultPlaces::is_entry))]
+fn is_entry(image: &Image, p: u32, s: u32, i: u32) -> bool
     requires p_bound { p < slot_count image.now }
     requires i_bound { offset image.now p + i < child_count image.now }
     ensures { result ≡ is_entry image.now p s i }
 {
-    child_at(image, offset_at(image, p) + i) == s
+    let _ = image.child_count(); // bounds the sum
+    image.child(image.offset(p) + i) == s
 }
 
 // Whether the list of slot p contains slot s.
-fn has_entry(image: &[u8], p: u32, s: u32) -> bool
-    requires passed { Passed image.now }
-    requires image_value { any_below (slot_count image.now) (offset_falls image.now) ≡ false }
-    requires p_bound { p < slot_count image.now }
-    ensures { result ≡ any_below (list_width image.now p) (is_entry image.now p s) }
+fn has_entry(lists: &Lists, p: u32, s: u32) -> bool
+    requires { p < slot_count lists.now }
+    ensures { result ≡ any_below (list_width lists.now p) (is_entry lists.now p s) }
 {
-    let width = list_width(image, p);
-    let mut i: u32 = 0;
-    while i < width {
-        if is_entry(image, p, s, i) {
-            return true;
-        }
-        i += 1;
-    }
-    false
+    let image = lists.image();
+    (0..image.list_width(p)).any(|i| is_entry(&image, p, s, i))
 }
 
 // Whether slot s is a used slot from 2 up that the list of its parent does not contain.
-fn unlisted(image: &[u8], s: u32) -> bool
-    requires passed { Passed image.now }
-    requires image_value { slots_wrong image.now ≡ false }
-    requires image_value_2 { any_below (slot_count image.now) (offset_falls image.now) ≡ false }
-    requires s_bound { s < slot_count image.now }
-    ensures { result ≡ unlisted image.now s }
+fn unlisted(lists: &Lists, s: u32) -> bool
+    requires { s < slot_count lists.now }
+    ensures { result ≡ unlisted lists.now s }
 {
-    if !is_used_from_2(image, s) {
+    let image = lists.image();
+    if !is_used_from_2(&image, s) {
         return false;
     }
-    !has_entry(image, parent_of(image, s), s)
+    !has_entry(lists, image.parent(s), s)
 }
 
-// The first such slot, or N if there is none.
-fn first_unlisted(image: &[u8]) -> u32
-    requires passed { Passed image.now }
-    requires image_value { slots_wrong image.now ≡ false }
-    requires image_value_2 { any_below (slot_count image.now) (offset_falls image.now) ≡ false }
-    ensures { result ≡ first_below (slot_count image.now) (unlisted image.now) }
+// The first such slot.
+fn first_unlisted(lists: &Lists) -> Option<u32>
+    ensures { result ≡ first_in (slot_count lists.now) (unlisted lists.now) }
 {
-    let slots = slot_count(image);
-    let mut s: u32 = 0;
-    while s < slots {
-        if unlisted(image, s) {
-            return s;
-        }
-        s += 1;
-    }
-    slots
+    (0..lists.image().slot_count()).find(|&s| unlisted(lists, s))
 }
 
-// The first childless slot, or N if there is none.
-fn first_childless(image: &[u8]) -> u32
-    requires { Whole image.now }
-    ensures { result ≡ first_below (slot_count image.now) (childless image.now) }
+// The first childless slot.
+fn first_childless(image: &Image) -> Option<u32>
+    ensures { result ≡ first_in (slot_count image.now) (childless image.now) }
 {
-    let slots = slot_count(image);
-    let mut s: u32 = 0;
-    while s < slots {
-        if childless(image, s) {
-            return s;
-        }
-        s += 1;
-    }
-    slots
+    (0..image.slot_count()).find(|&s| childless(image, s))
 }
 
 // Where the fault lies in an image that is refused by 11. The tests are in an order in which each relies on those before it.
-pub fn list_fault(image: &[u8]) -> Fault
-    requires passed { Passed image.now }
-    requires image_value { slots_wrong image.now ≡ false }
-    ensures { result ≡ list_fault image.now }
+pub fn list_fault(slots: &Slots) -> Fault
+    ensures { result ≡ list_fault slots.now }
 {
-    let slots = slot_count(image);
-    let falling = first_falling(image);
-    if falling < slots {
-        return Fault::Offset(falling);
+    let lists = match Lists::check(slots) {
+        Ok(lists) => lists,
+        Err(p) => return Fault::Offset(p),
+    };
+    if let Some((p, j)) = lists.first_wrong_entry() {
+        return Fault::Entry(p, j);
     }
-    let wrong = first_wrong_list(image);
-    if wrong < slots {
-        return entry_fault(image, wrong);
+    let image = lists.image();
+    if image.child_count() != used_count(&image) {
+        // Some slot is unlisted then. `list_fault` of the definitions says N if none is.
+        let s = first_unlisted(&lists).unwrap_or(image.slot_count());
+        return Fault::Unlisted(s);
     }
-    if child_count(image) != used_count(image) {
-        return Fault::Unlisted(first_unlisted(image));
+    match first_childless(&image) {
+        Some(s) => Fault::Childless(s),
+        None => Fault::RootBase,
     }
-    let lone = first_childless(image);
-    if lone < slots {
-        return Fault::Childless(lone);
-    }
-    Fault::RootBase
 }

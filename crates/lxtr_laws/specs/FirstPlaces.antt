@@ -1,10 +1,10 @@
 -- The first number below a bound that passes a test, if there is one.
 use Rattle.std.specs.Prelude.{ℕ, ◌≤◌, ◌<◌, ◌≡◌, Bool, true, false, cond, Option, Some, None, MatchOption}
 use Rattle.std.proofs.Common.{arith, refl}
-use Rattle.std.specs.Option.{is_some}
+use Rattle.std.specs.Option.{is_some, unwrap_or}
 use Rattle.lxtr_spec.specs.Ranges.{any_below, first_below}
 use Rattle.lxtr_laws.specs.RangeTests.{any_true, any_false}
-use Rattle.lxtr_laws.specs.Firsts.{first_below_lem, one_first}
+use Rattle.lxtr_laws.specs.Firsts.{first_below_lem, first_past_bound, one_first}
 
 unfoldable pub first_in : ℕ → (ℕ → Bool) → Option ℕ
 first_in n f = cond (any_below n f) (Some (first_below n f)) None
@@ -39,6 +39,15 @@ module _ (n : ℕ) (f : ℕ → Bool) where
   -- r says whether o, the first, is there
   pub some_below : (o : Option ℕ) (r : Bool) → o ≡ first_in n f → r ≡ is_some o → r ≡ any_below n f
   some_below o r e h = rw (h, e) some_is_any
+
+  -- it, or the bound if there is none
+  pub first_or_bound : unwrap_or (first_in n f) n ≡ first_below n f
+  unfolding first_in
+  first_or_bound = go (any_below n f) refl
+    where
+      go : (t : Bool) → any_below n f ≡ t → unwrap_or (cond t (Some (first_below n f)) None) n ≡ first_below n f
+      go true e = refl
+      go false e = first_past_bound f n e
 
   -- which number it is
   pub is_first_in : (r : ℕ) → r < n → f r ≡ true → ((k : ℕ) → k < r → f k ≡ false) → Some r ≡ first_in n f

@@ -68,6 +68,9 @@ module _ (f : ℕ → Bool) where
         go (yes h) = h
         go (no h) = absurd (true≢false (sym e ∙ first_none (omega arith)))
 
+    pub first_past_bound : any_below n f ≡ false → n ≡ first_below n f
+    first_past_bound e = one_first n (first_below n f) (record { to = le_refl n; here = λ h. absurd (omega arith); none = (any_false n f).0 e }) (first_below_lem n)
+
     first_tested : ltb (first_below n f) n ≡ any_below n f
     first_tested = go (dec_lt (first_below n f) n)
       where

@@ -1,7 +1,8 @@
 -- What a refusal from 9 up says: 1 to 8 and the rules before its own are passed, and its own is not.
 use Rattle.std.specs.Prelude.{ℕ, zero, suc, ◌≤◌, ◌≡◌, refl, ◌≢◌, List, Bool, true, false}
-use Rattle.std.proofs.Common.{arith}
+use Rattle.std.proofs.Common.{arith, sym}
 use Rattle.lxtr_spec.specs.Refusals.{refuse_if, first_refusal, too_short, magic_differs, version_wrong, reserved_set, sizes_wrong, length_wrong, map_wrong, offset_ends_wrong, header_refusal, labels_wrong, slots_wrong, lists_wrong, some_unreachable, body_refusal, image_refusal}
+use Rattle.lxtr_laws.specs.RefusalChains.{first_stands}
 use Rattle.lxtr_laws.specs.Passed.{Passed, header_passed}
 
 -- a chain answers no number above all of its numbers, and none that it does not have
@@ -37,7 +38,16 @@ second_stands zero later n h l e = (refl, e)
 second_stands (suc m) later n h l e = absurd (omega arith)
 
 module _ (b : List ℕ) where
-  header_most : header_refusal b ≤ 8
+  -- a refusal of the header is the refusal of the image; without one, the refusal of the rest is
+  pub header_refused : (r : ℕ) → r ≡ header_refusal b → r ≢ 0 → r ≡ image_refusal b
+  unfolding image_refusal
+  header_refused r e h = rw (← e) (sym (first_stands r (body_refusal b) h))
+
+  pub body_refused : (k : ℕ) → 0 ≡ header_refusal b → k ≡ body_refusal b → k ≡ image_refusal b
+  unfolding image_refusal first_refusal
+  body_refused k z e = rw (← z) e
+
+  pub header_most : header_refusal b ≤ 8
   unfolding header_refusal
   header_most =
       most (too_short b) 1 _ 8 (omega arith)

@@ -1,7 +1,7 @@
 -- A refusal of the header is the answer; without one, the refusal of the rest is.
 use Rattle.std.proofs.Common.{◌∙◌}
 use Rattle.lxtr_laws.specs.Failures.{number_not_0, passed_on}
-use Rattle.lxtr_check.specs.Checks.{header_refused, body_refused}
+use Rattle.lxtr_laws.specs.Refused.{header_refused, body_refused}
 use Rattle.lxtr_check.proofs.accept.Goals as goal
 
 pub returns-in_err-read-clause-refusal : goal.returns-in_err-read-clause-refusal
