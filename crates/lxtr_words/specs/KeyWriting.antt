@@ -1,5 +1,5 @@
 -- The key list of a table of words, written key by key.
-use Rattle.std.specs.Prelude.{ℕ, ◌+◌, ◌*◌, ◌-◌, ◌^◌, ◌≤◌, ◌<◌, ◌≡◌, Bool, true, false, get_or, take, set}
+use Rattle.std.specs.Prelude.{ℕ, ◌+◌, ◌*◌, ◌-◌, ◌^◌, ◌≤◌, ◌<◌, ◌≡◌, Bool, true, false, get_or, take, set, Result, Ok, Err}
 use Rattle.std.proofs.Math.Path.{refl, ap, ap₂}
 use Rattle.std.proofs.Common.{sym, ◌∙◌, arith, le-ltb, length-append, drop-cons, take_all}
 use mathlib.Core.List.{List, [], ◌∷◌, ◌++◌, append-nil}
@@ -12,8 +12,9 @@ use Rattle.lxtr_laws.specs.ByteOrders.{big, words_size}
 use Rattle.lxtr_laws.specs.Limit.{length_fits_byte}
 use Rattle.lxtr_laws.specs.Members.{member_at}
 use Rattle.lxtr_laws.specs.Overlays.{over, over_length, over_none, over_set, over_over, over_comm}
-use Rattle.lxtr_command_spec.specs.Utf8.{Decoded}
-use Rattle.lxtr_command_spec.specs.Utf8.{count_of, DecodingAnswer, decoding, decoding_of}
+use Rattle.std.specs.Result.{result_unwrap_or}
+use Rattle.lxtr_command_spec.specs.declared.TextProblem.{TextProblem}
+use Rattle.lxtr_command_spec.specs.Utf8.{Decoded, count_of, DecodingAnswer, decoding, decoding_of, decoded_in}
 use Rattle.lxtr_words.specs.TextLines.{word_at}
 use Rattle.lxtr_words.specs.WordTables.{key_of, keys_of, WordRight, Table, key_is, key_short, key_count_lem, keys_length, keys_at_lem}
 
@@ -45,6 +46,11 @@ records_end t l i h = ap key_records (drop_of_length-le (keys_of t l) {i = i} (o
 module _ (t : List ℕ) (at : ℕ) (w : WordRight t at) where
   pub length_byte : (n : ℕ) → n ≡ length (key_of t at) → n < 2 ^ 8
   length_byte n e = omega (arith, key_short t at w, length_fits_byte)
+
+-- what the code takes of an answer
+pub or_zero : (r : Result ℕ TextProblem) → result_unwrap_or r 0 ≡ (decoded_in r).count
+or_zero (Ok n) = refl
+or_zero (Err p) = refl
 
 -- ---- the length of the key list, summed up key by key
 

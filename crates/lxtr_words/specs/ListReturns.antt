@@ -1,13 +1,14 @@
 -- The answer, put together from the outcomes of its parts.
-use Rattle.std.specs.Prelude.{ℕ, ◌≤◌, ◌<◌, ◌≡◌, refl, ◌≢◌, List, ◌++◌, Bool, true, false, ltb, length, take, drop, Option, Some, None}
+use Rattle.std.specs.Prelude.{ℕ, ◌≤◌, ◌<◌, ◌≡◌, refl, List, ◌++◌, Bool, true, false, ltb, length, take, drop, Some, None, Err}
 use Rattle.std.proofs.Common.{sym, ◌∙◌, zero-add, arith, lt-ltb, le-ltb, length-take-le}
 use Rattle.std.proofs.Math.Path.{ap, ap₂}
 use Rattle.lxtr_spec.specs.KeyLists.{max_keys}
 use Rattle.lxtr_spec.specs.Samples.{key_list}
 use Rattle.lxtr_laws.specs.Overlays.{over}
-use Rattle.lxtr_command_spec.specs.WordLists.{Keyed}
-use Rattle.lxtr_command_spec.specs.WordLists.{lines_of, first_problem, keys_of_text, KeyedAnswer, refused_words, keyed, keyed_lines, keyed_of}
-use Rattle.lxtr_words.specs.Problems.{problem_answer, none_right}
+use Rattle.lxtr_command_spec.specs.WordLists.{lines_of, first_problem, keys_of_text, KeyedAnswer, refused_words, keyed, keyed_lines, keyed_of, keyed_in}
+use Rattle.lxtr_command_spec.specs.declared.WordProblem.{WordProblem}
+use Rattle.lxtr_command_spec.specs.declared.WordProblem.TheVariants.{ManyWords, NoRoom}
+use Rattle.lxtr_words.specs.Problems.{problem_answer, none_right, found_in}
 use Rattle.lxtr_words.specs.WordTables.{keys_of, LinesRight, keys_length}
 use Rattle.lxtr_words.specs.WordGathering.{Gathered}
 
@@ -43,9 +44,9 @@ module _ (t l out : List ℕ) (few : length l ≤ max_keys) (n : ℕ) (size : n 
   few_keys : length (keys_of t l) ≤ max_keys
   few_keys = omega (arith, keys_length t l)
 
-  pub list_short : (r : Keyed) → length out < n → r ≡ record { problem = 4; line = 0; count = 0; length = 0 } → record { answer = r; output = out } ≡ keyed (keys_of t l) out
+  pub list_short : length out < n → record { answer = keyed_in (Err NoRoom); output = out } ≡ keyed (keys_of t l) out
   unfolding refused_words
-  list_short r h e = rw e (sym (keyed_short (keys_of t l) out few_keys (omega arith)))
+  list_short h = sym (keyed_short (keys_of t l) out few_keys (omega arith))
 
   pub list_room : n ≤ length out → length (key_list (keys_of t l)) ≤ length out
   list_room h = omega arith
@@ -56,9 +57,9 @@ module _ (t l out : List ℕ) (few : length l ≤ max_keys) (n : ℕ) (size : n 
 -- ---- the words of the text were gathered into a table
 
 module _ (t a : List ℕ) (n : ℕ) (g : Gathered t a n) (out : List ℕ) where
-  pub words_many : (r : Keyed) → max_keys < n → r ≡ record { problem = 3; line = 0; count = 0; length = 0 } → record { answer = r; output = out } ≡ keyed (keys_of_text t) out
+  pub words_many : max_keys < n → record { answer = keyed_in (Err ManyWords); output = out } ≡ keyed (keys_of_text t) out
   unfolding refused_words
-  words_many r h e = rw e (sym (keyed_many (keys_of_text t) out (g.over h)))
+  words_many h = sym (keyed_many (keys_of_text t) out (g.over h))
 
   module _ (h : n ≤ max_keys) where
     pub words_few : length (take n a) ≤ max_keys
@@ -69,23 +70,16 @@ module _ (t a : List ℕ) (n : ℕ) (g : Gathered t a n) (out : List ℕ) where
 
 -- ---- the first problem of the text was looked for
 
-told : (p : Option (ℕ × ℕ)) (found : Keyed) (ks : List (List ℕ)) (out : List ℕ) → found ≡ problem_answer p → found.problem ≢ 0 → record { answer = found; output = out } ≡ keyed_lines p ks out
-unfolding problem_answer keyed_lines refused_words
-told None found ks out d h = absurd (h (ap (λ (k : Keyed). k.problem) d))
-told (Some p) found ks out d h = rw d refl
+module _ (t : List ℕ) where
+  pub problem_found : (p : WordProblem) → found_in (Some p) ≡ first_problem 1 (lines_of t) → (out : List ℕ) → record { answer = keyed_in (Err p); output = out } ≡ keyed_of t out
+  unfolding keyed_of keyed_lines refused_words
+  problem_found p e out = rw (← e) refl
 
-module _ (t : List ℕ) (found : Keyed) (e : found ≡ problem_answer (first_problem 1 (lines_of t))) where
-  pub problem_found : (out : List ℕ) → found.problem ≢ 0 → record { answer = found; output = out } ≡ keyed_of t out
-  unfolding keyed_of
-  problem_found out h = told (first_problem 1 (lines_of t)) found (keys_of_text t) out e h
-
-  module _ (z : found.problem ≡ 0) where
-    none_found : LinesRight (lines_of t) × (first_problem 1 (lines_of t) ≡ None)
-    none_found = none_right 1 (lines_of t) (ap (λ (k : Keyed). k.problem) (sym e) ∙ z)
-
+  module _ (e : found_in None ≡ first_problem 1 (lines_of t)) where
     pub lines_right : LinesRight (lines_of t)
-    lines_right = none_found.0
+    unfolding problem_answer
+    lines_right = (none_right 1 (lines_of t) (rw (← e) refl)).0
 
     pub lines_listed : (out : List ℕ) (r : KeyedAnswer) → r ≡ keyed (keys_of_text t) out → r ≡ keyed_of t out
     unfolding keyed_of keyed_lines
-    lines_listed out r d = rw none_found.1 d
+    lines_listed out r d = rw (← e) d

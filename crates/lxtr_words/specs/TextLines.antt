@@ -1,13 +1,18 @@
 -- The lines of a text by the places where they start, and the word of each.
 use Prim.Native.Nat.{ℕ, zero, suc, ◌+◌, ◌-◌, ◌≤◌, ◌<◌}
-use Rattle.std.specs.Prelude.{◌≡◌, refl, ◌≢◌, Bool, leb, eqb, get_or, drop}
+use Rattle.std.specs.Prelude.{◌≡◌, refl, ◌≢◌, Bool, ◌&&◌, leb, eqb, get_or, drop, Option, Some, None}
+use Rattle.std.specs.Option.{MatchOption, unwrap_or}
+use denote.Bor.{Bor}
+use lib.Pointwise.{pointwise}
+use Rattle.std.specs.List.{position, position_or_len}
 use Rattle.std.proofs.Math.Path.{sym, ap}
-use Rattle.std.proofs.Common.{ap₂, ◌∙◌, le-leb, eq-eqb, ne_eqb, length-drop, drop_of_length-le, drop-cons, drop-drop, get_or-drop, get_or-take, take-take}
+use Rattle.std.proofs.Common.{ap₂, ◌∙◌, le-leb, eq-eqb, ne_eqb, length-drop, drop_of_length-le, drop-cons, drop-drop, take_all}
 use Rattle.std.proofs.Math.Bool.{true, false}
 use mathlib.Core.List.{List, [], ◌∷◌, ◌++◌, append_assoc, append-nil}
-use Rattle.std.proofs.Math.Numerals.{add-one}
+use borrow.Author.Tests.{lt-ltb, le-ltb, eqb-false}
+use Rattle.std.proofs.Common.{eqb-true}
 use native.Mathlib.Omega.{arith}
-use Rattle.std.proofs.Math.Decide.{dec_le, ℕ_discrete}
+use Rattle.std.proofs.Math.Decide.{dec_le, dec_lt, ℕ_discrete}
 use Rattle.std.proofs.lemmas.Bool.{lt-leb}
 use Rattle.std.proofs.Math.ListN.{length, take}
 use Rattle.lxtr_command_spec.specs.WordLists.{line_feed, carriage_return, lines_from, lines_of, word_of}
@@ -33,11 +38,6 @@ lines_left t at = elim (leb at (length t)) [ true ↦ lines_of (drop at t) | fal
 
 pub record LineTo (t : List ℕ) (at e : ℕ) : Type 0 where
   pub ends : e ≡ line_end t at
-  pub from : at ≤ e
-  pub within : e ≤ length t
-
-pub record WordTo (t : List ℕ) (at e : ℕ) : Type 0 where
-  pub word : take (e - at) (drop at t) ≡ word_at t at
   pub from : at ≤ e
   pub within : e ≤ length t
 
@@ -118,36 +118,52 @@ left_more t at h =
     let n : at + (length (line_at t at) + 1) ≡ at + length (line_at t at) + 1 = omega arith in
     left_some t at h ∙ begun [] (drop at t) ∙ ap (λ (ls : List (List ℕ)). line_at t at ∷ ls) (left_part t at (length (line_at t at) + 1) h ∙ ap (lines_left t) n)
 
--- ---- the loop that looks for the end of a line: at place e, it is the end of the line that starts at e
+-- ---- the end of a line, by the place of the first line feed
 
-pub record LineSoFar (t : List ℕ) (at e : ℕ) : Type 0 where
-  pub from : at ≤ e
-  pub within : e ≤ length t
-  pub same : line_end t at ≡ line_end t e
+feed_place : (l : List ℕ) → length (first_line l) ≡ position_or_len (λ b. eqb b line_feed) l
+unfolding first_line
+feed_place [] = refl
+feed_place (c ∷ l) = go (ℕ_discrete c line_feed) (feed_place l)
+  where
+    go : Dec (c ≡ line_feed) → length (first_line l) ≡ position_or_len (λ b. eqb b line_feed) l → length (first_line (c ∷ l)) ≡ position_or_len (λ b. eqb b line_feed) (c ∷ l)
+    go (yes e) ih = rw (first_feed c l e, eq-eqb c line_feed e) refl
+    go (no e) ih = rw (first_on c l e, ne_eqb c line_feed e) (omega (arith, ih))
 
-module _ (t : List ℕ) (at : ℕ) where
-  pub line_start : at ≤ length t → LineSoFar t at at
-  line_start h = record { from = omega arith; within = h; same = refl }
+module _ (p : ℕ → Bool) (l : List ℕ) where
+  of_position : (n : ℕ) → position p l ≡ Some n → (n < length l) × (position_or_len p l ≡ n)
+  of_position n e = go (dec_lt (position_or_len p l) (length l))
+    where
+      go : Dec (position_or_len p l < length l) → (n < length l) × (position_or_len p l ≡ n)
+      go (yes h) = let f : ◌≡◌ {A = Option ℕ} (Some (position_or_len p l)) (Some n) = rw (lt-ltb (position_or_len p l) (length l) h) at e in let g : position_or_len p l ≡ n = cc in (omega arith, g)
+      go (no h) = let f : ◌≡◌ {A = Option ℕ} None (Some n) = rw (le-ltb (position_or_len p l) (length l) (omega arith)) at e in cc
 
-  module _ (e : ℕ) (so_far : LineSoFar t at e) where
-    to : line_end t e ≡ e → LineTo t at e
-    to k = record { ends = sym (so_far.same ∙ k); from = so_far.from; within = so_far.within }
+  of_none : position p l ≡ None → length l ≤ position_or_len p l
+  of_none e = go (dec_lt (position_or_len p l) (length l))
+    where
+      go : Dec (position_or_len p l < length l) → length l ≤ position_or_len p l
+      go (yes h) = let f : ◌≡◌ {A = Option ℕ} (Some (position_or_len p l)) None = rw (lt-ltb (position_or_len p l) (length l) h) at e in cc
+      go (no h) = omega arith
 
-    pub line_feed_lem : e < length t → get_or t e 0 ≡ line_feed → LineTo t at e
-    unfolding line_end line_at
-    line_feed_lem h k = to (rw (drop-cons t e 0 h, first_feed (get_or t e 0) (drop (suc e) t) k) (omega arith))
+-- l is the rest of the text
+module _ (l : List ℕ) where
+  pub feed_found : (n : ℕ) → position (λ b. eqb b line_feed) l ≡ Some n → (n ≤ length l) × (take n l ≡ first_line l)
+  feed_found n e =
+      let (h, some) = of_position (λ b. eqb b line_feed) l n e in
+      let k : length (first_line l) ≡ n = feed_place l ∙ some in
+      (omega arith, rw (← k) (sym (first_is l).1))
 
-    pub line_next : e < length t → get_or t e 0 ≢ line_feed → LineSoFar t at (e + 1)
-    unfolding line_end line_at
-    line_next h k = record {
-      from = omega (arith, so_far.from);
-      within = omega arith;
-      same = so_far.same ∙ rw (drop-cons t e 0 h, first_on (get_or t e 0) (drop (suc e) t) k, add-one e) (omega arith);
-    }
+  pub no_feed : position (λ b. eqb b line_feed) l ≡ None → l ≡ first_line l
+  no_feed e =
+      let h : length l ≤ length (first_line l) = rw feed_place (of_none (λ b. eqb b line_feed) l e) in
+      sym ((first_is l).1 ∙ take_all (length (first_line l)) l h)
 
-    pub line_end_lem : length t ≤ e → LineTo t at (length t)
-    unfolding line_end line_at first_line
-    line_end_lem h = let z : e ≡ length t = omega (arith, so_far.within) in rw z at (to (rw (drop_of_length-le t {i = e} h) (omega arith)))
+pub line_to : (t : List ℕ) (at : ℕ) → at ≤ length t → LineTo t at (at + length (line_at t at))
+unfolding line_end line_at
+line_to t at h = let k = (first_is (drop at t)).0 in record { ends = refl; from = omega arith; within = omega (arith, length-drop at t) }
+
+-- past the end of the text the rest is empty
+pub rest_past : (t : List ℕ) (at : ℕ) → length t < at → drop at t ≡ []
+rest_past t at h = drop_of_length-le t (omega arith)
 
 -- ---- the word of a line
 
@@ -168,39 +184,35 @@ word_whole (c ∷ []) (suc n) h e = absurd (omega arith)
 word_whole (c ∷ d ∷ l) zero h e = absurd (omega arith)
 word_whole (c ∷ d ∷ l) (suc n) h e = ap (λ (w : List ℕ). c ∷ w) (word_whole (d ∷ l) n (omega arith) e)
 
-module _ (t : List ℕ) (at e : ℕ) (line : LineTo t at e) where
-  size : e - at ≡ length (line_at t at)
-  unfolding line_end
-  size = omega (arith, line.ends)
+-- the last byte of a line that has one
+last_byte : (l : List ℕ) (n : ℕ) → length l ≡ suc n → drop (length l - 1) l ≡ get_or l n 0 ∷ []
+last_byte l n h =
+    let k : length l - 1 ≡ n = omega arith in
+    rw k (drop-cons l n 0 (omega arith) ∙ ap (λ (m : List ℕ). get_or l n 0 ∷ m) (drop_of_length-le l {i = suc n} (omega arith)))
 
-  line_is : take (e - at) (drop at t) ≡ line_at t at
-  unfolding line_at
-  line_is = rw size (sym (first_is (drop at t)).1)
+and_true : (b : Bool) → (b && true) ≡ b
+and_true true = refl
+and_true false = refl
 
-  pub word_none : e ≤ at → WordTo t at e
-  unfolding word_at word_of
-  word_none h =
-      let z : e - at ≡ 0 = omega arith in
-      let none : line_at t at ≡ [] = sym line_is ∙ ap (λ (n : ℕ). take n (drop at t)) z in
-      record { word = rw (none, z); from = line.from; within = line.within }
+-- what the library cuts off is a carriage return
+module _ (line : Bor (List ℕ)) where
+  whole_word : (l : List ℕ) → pointwise eqb (drop (length l - 1) l) (carriage_return ∷ []) ≡ false → l ≡ word_of l
+  unfolding word_of
+  whole_word [] e = refl
+  whole_word (c ∷ l) e =
+      let f : (eqb (get_or (c ∷ l) (length l) 0) carriage_return && true) ≡ false = rw (last_byte (c ∷ l) (length l) refl) at e in
+      sym (word_whole (c ∷ l) (length l) refl (eqb-false (get_or (c ∷ l) (length l) 0) carriage_return (sym (and_true (eqb (get_or (c ∷ l) (length l) 0) carriage_return)) ∙ f)))
 
-  module _ (h : at < e) where
-    last : get_or (line_at t at) (e - 1 - at) 0 ≡ get_or t (e - 1) 0
-    last =
-        let n : at + (e - 1 - at) ≡ e - 1 = omega arith in
-        rw (← line_is) (get_or-take (e - at) (drop at t) (e - 1 - at) 0 (omega arith) ∙ get_or-drop at t (e - 1 - at) 0 ∙ ap (λ (k : ℕ). get_or t k 0) n)
+  cut_word : (l : List ℕ) → pointwise eqb (drop (length l - 1) l) (carriage_return ∷ []) ≡ true → take (length l - 1) l ≡ word_of l
+  cut_word [] e = cc
+  cut_word (c ∷ l) e =
+      let f : (eqb (get_or (c ∷ l) (length l) 0) carriage_return && true) ≡ true = rw (last_byte (c ∷ l) (length l) refl) at e in
+      let k : length (c ∷ l) - 1 ≡ length l = omega arith in
+      rw k (sym (word_cut (c ∷ l) (length l) refl (eqb-true (get_or (c ∷ l) (length l) 0) carriage_return (sym (and_true (eqb (get_or (c ∷ l) (length l) 0) carriage_return)) ∙ f))))
 
-    long : length (line_at t at) ≡ suc (e - 1 - at)
-    long = omega (arith, size)
-
-    pub word_return : get_or t (e - 1) 0 ≡ carriage_return → WordTo t at (e - 1)
-    unfolding word_at
-    word_return k = record {
-      word = sym (word_cut (line_at t at) (e - 1 - at) long (last ∙ k) ∙ rw (← line_is) (take-take (e - 1 - at) (e - at) (drop at t) (omega arith)));
-      from = omega arith;
-      within = omega (arith, line.within);
-    }
-
-    pub word_all : get_or t (e - 1) 0 ≢ carriage_return → WordTo t at e
-    unfolding word_at
-    word_all k = record { word = line_is ∙ sym (word_whole (line_at t at) (e - 1 - at) long (λ z. k (sym last ∙ z))); from = line.from; within = line.within }
+  pub stripped : (r : Option (Bor (List ℕ)))
+      → MatchOption r (pointwise eqb (drop (length line.now - 1) line.now) (carriage_return ∷ []) ≡ false)
+      (λ x. (pointwise eqb (drop (length line.now - 1) line.now) (carriage_return ∷ []) ≡ true) × (x.now ≡ take (length line.now - 1) line.now) × (length x.now + 1 ≡ length line.now))
+      → (unwrap_or r line).now ≡ word_of line.now
+  stripped None e = whole_word line.now e
+  stripped (Some x) e = e.1 ∙ cut_word line.now e.0

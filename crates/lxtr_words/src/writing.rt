@@ -16,7 +16,7 @@ fn label_count(text: &[u8], start: usize) -> usize
     requires { WordRight text.now start }
     ensures { (result ≡ length (key_of text.now start)) × (result < 2 ^ 8) }
 {
-    count_labels(word_at(text, start)).count
+    count_labels(word_at(text, start)).unwrap_or(0)
 }
 
 // The length of the key list in bytes.
@@ -26,10 +26,8 @@ pub fn list_length(text: &[u8], starts: &[usize]) -> usize
     ensures { result ≡ length (key_list (keys_of text.now starts.now)) }
 {
     let mut total = HEAD_LENGTH;
-    let mut i: usize = 0;
-    while i < starts.len() {
-        total += 1 + 4 * label_count(text, starts[i]);
-        i += 1;
+    for start in starts {
+        total += 1 + 4 * label_count(text, *start);
     }
     total
 }
@@ -41,7 +39,7 @@ fn put_labels(text: &[u8], start: usize, out: &mut [u8], at: usize) -> usize
     ensures value { result ≡ length (key_of text.now start) }
     ensures out_after { out.new ≡ over out.old at (be_words (key_of text.now start)) }
 {
-    decode(word_at(text, start), &mut out[at..]).count
+    decode(word_at(text, start), &mut out[at..]).unwrap_or(0)
 }
 
 // Writes the key of a word at position `at` of the output. Returns the position after it.
@@ -63,10 +61,8 @@ fn put_keys(text: &[u8], starts: &[usize], out: &mut [u8])
     ensures { out.new ≡ over out.old 5 (key_records (keys_of text.now starts.now)) }
 {
     let mut at = HEAD_LENGTH;
-    let mut i: usize = 0;
-    while i < starts.len() {
-        at = put_key(text, starts[i], out, at);
-        i += 1;
+    for start in starts {
+        at = put_key(text, *start, out, at);
     }
 }
 
