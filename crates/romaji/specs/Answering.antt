@@ -1,6 +1,6 @@
 -- Typing and finishing as the code makes them: first the refusals of image and table, then room, then what goes out and what is kept.
 -- Results of calls are variables: each law says that what one return computes is the definition's answer.
-use Rattle.std.specs.Prelude.{ℕ, ◌+◌, ◌*◌, ◌/◌, ◌≤◌, min, ◌≡◌, refl, ◌≢◌, Bool, true, false, not, List, [], ◌++◌, take, leb, Option, Some, None}
+use Rattle.std.specs.Prelude.{ℕ, ◌+◌, ◌*◌, ◌/◌, ◌≤◌, min, ◌≡◌, ◌≢◌, Bool, true, false, List, ◌++◌, take, leb, Option, None}
 use Rattle.std.proofs.Common.{arith, zero-add, sym, ◌∙◌, length-drop}
 use Rattle.std.proofs.Math.Path.{ap}
 use Rattle.std.proofs.Math.ListN.{length, drop}

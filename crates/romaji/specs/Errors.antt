@@ -1,11 +1,8 @@
 -- What the exit of a `?` answers.
-use Rattle.std.specs.Prelude.{ℕ, suc, ◌≡◌, ◌≢◌, Result, Ok, Err, IsErrAnd}
+use Rattle.std.specs.Prelude.{ℕ, suc, ◌≡◌, ◌≢◌, Result, Err, IsErrAnd}
 use Rattle.std.proofs.Common.{arith, ◌∙◌, ap}
 use Rattle.std.proofs.lemmas.Result.{err_from_is_err_and}
-use Rattle.lxtr_laws.specs.Failures.{number_not_0}
-use Rattle.romaji_spec.specs.Typing.{typing_number}
 use Rattle.romaji_spec.specs.declared.TypingRefusal.{TypingRefusal}
-use Rattle.romaji_spec.specs.declared.TypingRefusal.TheVariants.{Image, TableTooShort, EmptyKey, NoRoom}
 
 -- the error that is passed on is e
 pub exit : {A : Type 0} (r : Result A TypingRefusal) (e : TypingRefusal) → IsErrAnd r (λ y. y ≡ e) → r ≡ Err e

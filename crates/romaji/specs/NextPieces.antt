@@ -1,7 +1,7 @@
 -- The piece at a place of the text, as the code finds it: by a query of the first bytes from there on.
 -- No key is longer than the bytes looked at, and a text of which more is left than can be kept is not kept.
 use Rattle.std.specs.Prelude.{ℕ, ◌+◌, ◌-◌, ◌*◌, ◌^◌, ◌/◌, ◌%◌, ◌≤◌, ◌<◌, min, ◌≡◌, Bool, ◌&&◌, take, drop, get_or, Option, Some, None}
-use Rattle.std.proofs.Common.{arith, ◌∙◌, true≢false, length-append, length-drop, take_all, length-take-le, Fits}
+use Rattle.std.proofs.Common.{arith, ◌∙◌, true≢false, length-drop, take_all, length-take-le, Fits}
 use Rattle.std.proofs.Math.Path.{refl, sym, ap}
 use Rattle.std.proofs.Math.Bool.{true, false}
 use mathlib.Core.List.{List, [], ◌∷◌, ◌++◌}

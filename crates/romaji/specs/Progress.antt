@@ -1,10 +1,9 @@
 -- How far a text was converted, for the two loops that go from place to place by its pieces.
 -- What went out so far and what goes out from the place on is all that goes out; the rest is that of the text from there on.
-use Rattle.std.specs.Prelude.{ℕ, ◌+◌, ◌-◌, ◌/◌, ◌≤◌, ◌<◌, ◌≡◌, refl, ◌≢◌, Bool, length, drop, get_or, Option, Some, None, IfSome, ◌^◌}
-use Rattle.std.proofs.Common.{arith, add-zero, not-suc-le-zero, sym, ap₂, ◌∙◌, length-append, length-drop, length-take, Fits, drop-drop, get_or-drop}
+use Rattle.std.specs.Prelude.{ℕ, ◌+◌, ◌/◌, ◌≤◌, ◌<◌, ◌≡◌, refl, Bool, length, drop, get_or, Option, Some, None, IfSome, ◌^◌}
+use Rattle.std.proofs.Common.{arith, add-zero, not-suc-le-zero, sym, ap₂, ◌∙◌, length-append, length-drop, length-take, drop-drop, get_or-drop}
 use Rattle.std.proofs.Math.Path.{ap}
 use mathlib.Core.List.{List, [], ◌∷◌, ◌++◌, append_assoc, append-nil}
-use Rattle.std.specs.Int.{w64}
 use Rattle.romaji_spec.specs.Pieces.{Cutting, only_rest, with_piece, matched, piece_by, piece_at, piece_text, matched_value, outgoing, cut}
 use Rattle.romaji_laws.specs.Steps.{cut_end, cut_keeps, cut_next}
 use Rattle.romaji.specs.NextPieces.{NextIs, ends, stays, goes, out_by, out_is}

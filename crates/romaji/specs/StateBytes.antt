@@ -1,7 +1,7 @@
 -- The state as bytes: the bytes kept in it are read as a text of their own, and a state is written byte by byte.
-use Rattle.std.specs.Prelude.{ℕ, suc, ◌+◌, ◌-◌, ◌≤◌, ◌<◌, min, ◌≡◌, refl, ◌≢◌, List, [], ◌∷◌, ◌++◌, length, get_or, set}
+use Rattle.std.specs.Prelude.{ℕ, ◌-◌, ◌≤◌, min, ◌≡◌, refl, ◌≢◌, List, [], ◌∷◌, length, get_or, set}
 use native.Mathlib.Omega.{arith}
-use Rattle.std.proofs.Common.{add-one, ◌∙◌, length-set, take-take}
+use Rattle.std.proofs.Common.{◌∙◌, take-take}
 use Rattle.std.proofs.Math.Path.{sym, ap}
 use Rattle.std.proofs.Math.ListN.{take, drop, length-take, length-drop}
 use Rattle.std.proofs.Math.Seq.{take_all}
@@ -9,7 +9,6 @@ use Rattle.lxtr_spec.specs.HostNumbers.{at_front}
 use borrow.Rule.Slice.PartMut.{put_mid}
 use Rattle.lxtr_laws.specs.Overlays.{all_words}
 use Rattle.romaji_spec.specs.Pieces.{max_kept}
-use Rattle.romaji_spec.specs.Typing.{state_of}
 use Rattle.romaji_spec.specs.HostStates.{state_bytes, kept_bytes}
 use Rattle.romaji_spec.specs.declared.State.{State}
 use Rattle.romaji.specs.Tables.{take_least}

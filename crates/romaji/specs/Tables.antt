@@ -1,17 +1,16 @@
 -- The place of a text in a table, as the code finds it: cut off at the table's end. A text that begins at the end or past it is not
 -- whole, and all after it begin past the end too.
-use Rattle.std.specs.Prelude.{ℕ, zero, suc, ◌+◌, ◌-◌, ◌*◌, ◌≤◌, ◌<◌, min, ◌≡◌, Bool, length, take, drop, set, leb, Some, None, Option}
+use Rattle.std.specs.Prelude.{ℕ, ◌+◌, ◌-◌, ◌*◌, ◌≤◌, ◌<◌, min, ◌≡◌, Bool, length, take, drop, set, leb}
 use native.Mathlib.Omega.{arith}
-use Rattle.std.proofs.Common.{◌≢◌, below_more, get_or-set_other, get_or-set_same, add-one, ap, ◌∙◌, length-append, drop_of_length-le, take_all, take-suc-set}
-use Rattle.std.proofs.Math.Path.{refl, sym, ap₂}
+use Rattle.std.proofs.Common.{◌≢◌, below_more, get_or-set_other, get_or-set_same, add-one, ap, ◌∙◌, drop_of_length-le, take_all}
+use Rattle.std.proofs.Math.Path.{refl, sym}
 use Rattle.std.proofs.Math.Bool.{true, false}
-use mathlib.Core.List.{List, [], ◌∷◌, ◌++◌}
-use Rattle.std.proofs.Math.ListN.{get_or, length-drop, length-set, get_or-append}
+use mathlib.Core.List.{List}
+use Rattle.std.proofs.Math.ListN.{get_or, length-drop, length-set}
 use Rattle.std.proofs.Math.Seq.{take-nil}
-use Rattle.std.proofs.lemmas.List.{get_or_at}
 use Rattle.std.proofs.Math.Dec.{ltb}
 use borrow.Author.Tests.{lt-ltb, le-ltb, ltb-true, ltb-false, leb-true, leb-false}
-use Rattle.romaji_spec.specs.KanaTables.{text_end, text_at, text_bytes, text_cut, table_short}
+use Rattle.romaji_spec.specs.KanaTables.{text_end, text_at, text_bytes, text_cut}
 use Rattle.romaji_laws.specs.TextPlaces.{text_rises}
 
 -- the first n of a list are the first m, if n is m or the list has no more than n

@@ -1,8 +1,8 @@
 -- The text is what was kept and then what is typed. Its bytes go into a query as labels, and into a state as they are, one after
 -- the other; both loops copy the part of the text that starts at a place.
 use Rattle.std.specs.Prelude.{ℕ, zero, suc, ◌+◌, ◌-◌, ◌*◌, ◌≤◌, ◌<◌, ◌^◌, ◌≡◌, List, ◌++◌, take, drop, get_or, set}
-use Rattle.std.proofs.Common.{arith, zero-add, add-one, sym, ap, ◌∙◌, length-drop, length-take-le, get_or-take, get_or-drop, get_or-append-add}
-use Rattle.std.proofs.Math.ListN.{length, replicate, get_or-append}
+use Rattle.std.proofs.Common.{arith, zero-add, add-one, sym, ap, ◌∙◌, length-drop, length-take-le, get_or-take, get_or-drop}
+use Rattle.std.proofs.Math.ListN.{length, replicate}
 use Rattle.std.proofs.lemmas.List.{length-replicate}
 use Rattle.std.proofs.Math.Seq.{take_all, paste, paste-zero, paste-suc}
 use Rattle.lxtr_spec.specs.Numbers.{be_bytes, be_words}

@@ -1,5 +1,5 @@
 -- There are no bytes; or the first byte is the count, and the kept bytes follow as far as they fit.
-use Rattle.std.proofs.Common.{◌≡◌, ◌≢◌, length, arith, refl}
+use Rattle.std.proofs.Common.{◌≡◌, ◌≢◌, length, arith}
 use Rattle.lxtr_spec.specs.Labels.{max_labels}
 use Rattle.romaji_spec.specs.Pieces.{max_kept}
 use Rattle.romaji.specs.StateBytes.{put_none, put_all}

@@ -1,5 +1,4 @@
 -- The labels of the text of a value, or one label for a byte.
-use Rattle.std.proofs.Common.{refl}
 use Rattle.romaji.specs.NextPieces.{text_count, byte_count}
 use Rattle.romaji.proofs.pieces.Conversion.out_count.Goals as goal
 

@@ -1,5 +1,5 @@
 -- The bytes between the length byte and the end of the text, cut off at the end of the table.
-use Rattle.romaji.specs.Tables.{no_bytes, bytes_start, bytes_end, the_bytes}
+use Rattle.romaji.specs.Tables.{no_bytes, bytes_start, the_bytes}
 use Rattle.romaji.proofs.tables.Kana.text.Goals as goal
 
 pub returns-then-self-at : goal.returns-then-self-at
