@@ -1,5 +1,5 @@
 -- Drawings of document 01's examples, computed on the definitions; also lines and decisions that do not occur in these.
-use Rattle.std.specs.Prelude.{ℕ, ◌≡◌, refl, List, [], ◌∷◌, ◌++◌, Bool, true, false, set}
+use Rattle.std.specs.Prelude.{ℕ, ◌≡◌, refl, List, [], ◌∷◌, ◌++◌, Bool, true, false, set, Option, Some, None}
 use Prim.Native.String.{String}
 use Rattle.lxtr_spec.specs.Numbers.{le32, be32, le_bytes, be_bytes, le_words, be_words}
 use Rattle.lxtr_spec.specs.Ranges.{first_from, first_below, concat_from}
@@ -11,7 +11,7 @@ use Rattle.lxtr_spec.specs.Builds.{header_bytes, map_bytes, image_bytes}
 use Rattle.lxtr_spec.specs.Samples.{p1, nodes3, offsets3, children3, labels3, p3, p7, p8_slot}
 use Rattle.lxtr_spec.specs.Lines.{digit_of, numeral, decimal, hexadecimal}
 use Rattle.lxtr_spec.specs.declared.Fault.{Fault}
-use Rattle.lxtr_spec.specs.declared.Fault.TheVariants.{Nowhere, Label, Slot, Offset, Entry, Unlisted, Childless, RootBase, Unreachable}
+use Rattle.lxtr_spec.specs.declared.Fault.TheVariants.{Label, Slot, Offset, Entry, Unlisted, Childless, RootBase, Unreachable}
 use Rattle.lxtr_laws.specs.ExampleTables.{AllHold, ◌and◌}
 use Rattle.lxtr_command_spec.specs.Utf8.{utf8}
 use Rattle.lxtr_command_spec.specs.Commands.{ascii_from, ascii}
@@ -43,13 +43,13 @@ list_at b j = list_of b j ∷ []
 
 pub data Example : Type 0 where
   -- an image, the fault, and the whole drawing
-  whole : List ℕ → Fault → List String → Example
+  whole : List ℕ → Option Fault → List String → Example
   -- an image, the fault, a slot, and what is drawn of it and of the step to it
-  slot : List ℕ → Fault → ℕ → List String → Example
+  slot : List ℕ → Option Fault → ℕ → List String → Example
   -- two slots of P3, and the line of a step from one to the other
   step : ℕ → ℕ → String → Example
   -- a fault, a number, and whether the slot and the entry of that number are at fault
-  at_fault : Fault → ℕ → Bool → Bool → Example
+  at_fault : Option Fault → ℕ → Bool → Bool → Example
   -- an image, and for each entry the slot in whose list it lies
   lists : List ℕ → List ℕ → Example
 
@@ -63,14 +63,14 @@ Holds (lists b ps) = concat_from (child_count b) 0 (list_at b) ≡ ps
 unfoldable pub examples : List Example
 examples =
     -- P3 and P7 whole; P7 is refused for entry 2
-    whole p3 Nowhere
+    whole p3 None
     (slots3
     ++ "  s1 -> s3 [label=\"entry 0\", style=dashed, constraint=false, color=\"#202020\", fontcolor=\"#202020\"];\n"
     ∷ "  s3 -> s4 [label=\"entry 1\", style=dashed, constraint=false, color=\"#202020\", fontcolor=\"#202020\"];\n"
     ∷ "  s3 -> s6 [label=\"entry 2\", style=dashed, constraint=false, color=\"#202020\", fontcolor=\"#202020\"];\n"
     ∷ "  s6 -> s2 [label=\"entry 3\", style=dashed, constraint=false, color=\"#202020\", fontcolor=\"#202020\"];\n"
     ∷ [])
-    ∷ whole p7 (Entry 3 2)
+    ∷ whole p7 (Some (Entry 3 2))
     (slots3
     ++ "  s1 -> s3 [label=\"entry 0\", style=dashed, constraint=false, color=\"#202020\", fontcolor=\"#202020\"];\n"
     ∷ "  s3 -> s4 [label=\"entry 1\", style=dashed, constraint=false, color=\"#202020\", fontcolor=\"#202020\"];\n"
@@ -78,18 +78,18 @@ examples =
     ∷ "  s6 -> s2 [label=\"entry 3\", style=dashed, constraint=false, color=\"#202020\", fontcolor=\"#202020\"];\n"
     ∷ [])
     -- slots 0 and 1 of P1 hold nothing: slot 1 is drawn anyway, slot 0 only if it is at fault
-    ∷ whole p1 Nowhere ("  s1 [label=\"slot 1\\nbase 0\\nparent 0\", peripheries=1, color=\"#202020\", fontcolor=\"#202020\"];\n" ∷ [])
-    ∷ slot p1 (Slot 0) 0 ("  s0 [label=\"slot 0\\nbase 0\\nparent 0\", peripheries=1, color=\"#E00000\", fontcolor=\"#E00000\"];\n" ∷ [])
+    ∷ whole p1 None ("  s1 [label=\"slot 1\\nbase 0\\nparent 0\", peripheries=1, color=\"#202020\", fontcolor=\"#202020\"];\n" ∷ [])
+    ∷ slot p1 (Some (Slot 0)) 0 ("  s0 [label=\"slot 0\\nbase 0\\nparent 0\", peripheries=1, color=\"#E00000\", fontcolor=\"#E00000\"];\n" ∷ [])
     -- P8: an unused slot that holds something; no step is drawn to it, nor to a slot whose parent is not below N
-    ∷ slot p8_slot Nowhere 5 ("  s5 [label=\"slot 5\\nbase 7\\nparent 0\", peripheries=1, color=\"#202020\", fontcolor=\"#202020\"];\n" ∷ [])
-    ∷ slot (image_bytes (set nodes3 5 7) offsets3 children3 labels3) (Slot 2) 2
+    ∷ slot p8_slot None 5 ("  s5 [label=\"slot 5\\nbase 7\\nparent 0\", peripheries=1, color=\"#202020\", fontcolor=\"#202020\"];\n" ∷ [])
+    ∷ slot (image_bytes (set nodes3 5 7) offsets3 children3 labels3) (Some (Slot 2)) 2
     ("  s2 [label=\"slot 2\\nvalue 1\\nparent 7\", style=rounded, color=\"#E00000\", fontcolor=\"#E00000\"];\n" ∷ [])
     -- a step by a code that has no label
     ∷ step 1 5 "  s1 -> s5 [label=\"code 7\"];\n"
     -- each kind of fault: a label is not a slot, and the slot in whose list a wrong entry lies is not at fault
-    ∷ at_fault Nowhere 0 false false ∷ at_fault (Label 2) 2 false false ∷ at_fault (Slot 2) 2 true false ∷ at_fault (Slot 2) 3 false false
-    ∷ at_fault (Offset 2) 2 true false ∷ at_fault (Entry 3 2) 3 false false ∷ at_fault (Entry 3 2) 2 false true
-    ∷ at_fault (Unlisted 2) 2 true false ∷ at_fault (Childless 2) 2 true false ∷ at_fault RootBase 1 true false ∷ at_fault (Unreachable 2) 2 true false
+    ∷ at_fault None 0 false false ∷ at_fault (Some (Label 2)) 2 false false ∷ at_fault (Some (Slot 2)) 2 true false ∷ at_fault (Some (Slot 2)) 3 false false
+    ∷ at_fault (Some (Offset 2)) 2 true false ∷ at_fault (Some (Entry 3 2)) 3 false false ∷ at_fault (Some (Entry 3 2)) 2 false true
+    ∷ at_fault (Some (Unlisted 2)) 2 true false ∷ at_fault (Some (Childless 2)) 2 true false ∷ at_fault (Some RootBase) 1 true false ∷ at_fault (Some (Unreachable 2)) 2 true false
     -- P3, and P3 with offsets that fall: entries 1 and 2 lie in the lists of slots 0 and 3, entry 3 in those of slots 1 and 6
     ∷ lists p3 (1 ∷ 3 ∷ 3 ∷ 6 ∷ [])
     ∷ lists (image_bytes nodes3 (0 ∷ 3 ∷ 4 ∷ 1 ∷ 3 ∷ 3 ∷ 3 ∷ 4 ∷ []) children3 labels3) (0 ∷ 0 ∷ 0 ∷ 1 ∷ [])

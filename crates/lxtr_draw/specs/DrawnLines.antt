@@ -1,5 +1,5 @@
 -- The lines of a drawing, and which of them are drawn: each return of the code is a case of the definition.
-use Rattle.std.specs.Prelude.{ℕ, ◌-◌, ◌≤◌, ◌<◌, ◌≡◌, refl, ◌≢◌, List, [], ◌∷◌, Bool, ◌||◌, not, cond, ltb, eqb}
+use Rattle.std.specs.Prelude.{ℕ, ◌-◌, ◌≤◌, ◌<◌, ◌≡◌, refl, ◌≢◌, List, [], ◌∷◌, Bool, ◌||◌, not, cond, ltb, eqb, Option}
 use Rattle.std.proofs.Common.{arith, ◌∙◌, inl, inr}
 use Rattle.std.proofs.Math.Path.{sym, ap}
 use Rattle.std.proofs.Math.Bool.{true, false}
@@ -7,7 +7,7 @@ use borrow.Author.Tests.{eq-eqb, ne_eqb, le-leb, lt-leb, lt-ltb, le-ltb, eqb-fal
 use Rattle.lxtr_spec.specs.Image.{slot_count, base_word, check_word, is_leaf, has_leaf, value_number, base, parent, code_to, child, label_count, label_at}
 use Rattle.lxtr_spec.specs.Refusals.{both_zero}
 use Rattle.lxtr_spec.specs.declared.Fault.{Fault}
-use Rattle.lxtr_laws.specs.Tests.{outcome, or_is_true, not_is_true, not_is_false, and_is_true, and_is_false}
+use Rattle.lxtr_laws.specs.Tests.{outcome, or_is_true, not_is_true, and_is_true, and_is_false}
 use Rattle.lxtr_command_spec.specs.Forms.{filled}
 use Rattle.lxtr_command_spec.specs.Commands.{ascii}
 use Rattle.lxtr_command_spec.specs.Drawings.{colour, slot_line, step_line, entry_line, is_wrong_slot, is_wrong_entry, is_drawn, slot_text, has_step, step_text, list_of, entry_text}
@@ -53,22 +53,15 @@ entry_put b p j wrong c t e f line l r q = rw (entry_line, sym e, sym f) q
 
 -- ---- what is drawn
 
--- the test for a fault is the test for its case
-pub slot_case : (f g : Fault) (s : ℕ) (t : Bool) → f ≡ g → t ≡ is_wrong_slot g s → t ≡ is_wrong_slot f s
-slot_case f g s t e h = rw e h
-
-pub entry_case : (f g : Fault) (j : ℕ) (t : Bool) → f ≡ g → t ≡ is_wrong_entry g j → t ≡ is_wrong_entry f j
-entry_case f g j t e h = rw e h
-
 -- t is whether the slot is drawn
-module _ (b : List ℕ) (f : Fault) (s : ℕ) (t : Bool) (drawn-is : t ≡ is_drawn b f s) (line : List ℕ) where
-  pub slot_left_out : not t ≡ true → Appended line 0 (slot_text b f s) line 0
+module _ (b : List ℕ) (f : Option Fault) (s : ℕ) (t : Bool) (drawn-is : t ≡ is_drawn b f s) (line : List ℕ) where
+  pub slot_left_out : t ≡ false → Appended line 0 (slot_text b f s) line 0
   unfolding slot_text
-  slot_left_out h = rw (slot_text, outcome t _ false drawn-is ((not_is_true t).0 h)) (append_none line 0 (omega arith))
+  slot_left_out h = rw (slot_text, outcome t _ false drawn-is h) (append_none line 0 (omega arith))
 
-  pub slot_put : not t ≡ false → (w : Bool) → w ≡ is_wrong_slot f s → (l : List ℕ) (r : ℕ) → Appended line 0 (slot_line b s w) l r → Appended line 0 (slot_text b f s) l r
+  pub slot_put : t ≡ true → (w : Bool) → w ≡ is_wrong_slot f s → (l : List ℕ) (r : ℕ) → Appended line 0 (slot_line b s w) l r → Appended line 0 (slot_text b f s) l r
   unfolding slot_text
-  slot_put h w e l r q = rw (slot_text, outcome t _ true drawn-is ((not_is_false t).0 h), sym e) q
+  slot_put h w e l r q = rw (slot_text, outcome t _ true drawn-is h, sym e) q
 
 -- p is the parent, n the number of slots
 module _ (b : List ℕ) (s p : ℕ) (parent_is : p ≡ parent b s) (line : List ℕ) where
@@ -90,13 +83,13 @@ module _ (b : List ℕ) (s p : ℕ) (parent_is : p ≡ parent b s) (line : List 
     step_put some h l r q =
         rw (step_text, has_step, ne_eqb (parent b s) 0 (λ z. some (parent_is ∙ z)), lt-ltb (parent b s) (slot_count b) (omega arith), sym parent_is) q
 
-pub entry_drawn : (b : List ℕ) (f : Fault) (j p : ℕ) (w : Bool) → p ≡ list_of b j → w ≡ is_wrong_entry f j → (line l : List ℕ) (r : ℕ)
+pub entry_drawn : (b : List ℕ) (f : Option Fault) (j p : ℕ) (w : Bool) → p ≡ list_of b j → w ≡ is_wrong_entry f j → (line l : List ℕ) (r : ℕ)
     → Appended line 0 (entry_line b p j w) l r → Appended line 0 (entry_text b f j) l r
 unfolding entry_text
 entry_drawn b f j p w e h line l r q = rw (entry_text, sym e, sym h) q
 
 -- a slot to which a step is drawn has a parent, so the slot is drawn too
-pub step_to_drawn : (b : List ℕ) (f : Fault) (s : ℕ) → has_step b s ≡ true → is_drawn b f s ≡ true
+pub step_to_drawn : (b : List ℕ) (f : Option Fault) (s : ℕ) → has_step b s ≡ true → is_drawn b f s ≡ true
 unfolding has_step is_drawn both_zero parent
 step_to_drawn b f s e =
     let some = eqb-false (parent b s) 0 ((not_is_true (eqb (parent b s) 0)).0 ((and_is_true (not (eqb (parent b s) 0)) (ltb (parent b s) (slot_count b))).0 e).0) in

@@ -1,5 +1,5 @@
 -- The lines of a drawing fit wholly into a line of LINE_ROOM bytes, and so does what is drawn of a slot, of a step and of an entry.
-use Rattle.std.specs.Prelude.{ℕ, ◌+◌, ◌*◌, ◌≤◌, ◌≡◌, refl, List, [], Bool, true, false, length, leb, eqb}
+use Rattle.std.specs.Prelude.{ℕ, ◌+◌, ◌*◌, ◌≤◌, ◌≡◌, refl, List, [], Bool, true, false, length, leb, eqb, Option}
 use Rattle.std.proofs.Common.{arith, leb-true}
 use Rattle.lxtr_spec.specs.Image.{is_leaf, parent, code_to, label_count}
 use Rattle.lxtr_spec.specs.declared.Fault.{Fault}
@@ -38,7 +38,7 @@ either : (t : Bool) (line : List ℕ) → length line ≤ line_room → length {
 either true line h = h
 either false line h = omega arith
 
-pub slot_text_fits : (b : List ℕ) (f : Fault) (s : ℕ) → length (slot_text b f s) ≤ line_room
+pub slot_text_fits : (b : List ℕ) (f : Option Fault) (s : ℕ) → length (slot_text b f s) ≤ line_room
 unfolding slot_text
 slot_text_fits b f s = either (is_drawn b f s) (slot_line b s (is_wrong_slot f s)) (slot_fits b s (is_wrong_slot f s))
 
@@ -46,6 +46,6 @@ pub step_text_fits : (b : List ℕ) (s : ℕ) → length (step_text b s) ≤ lin
 unfolding step_text
 step_text_fits b s = either (has_step b s) (step_line b (parent b s) s) (step_fits b (parent b s) s)
 
-pub entry_text_fits : (b : List ℕ) (f : Fault) (j : ℕ) → length (entry_text b f j) ≤ line_room
+pub entry_text_fits : (b : List ℕ) (f : Option Fault) (j : ℕ) → length (entry_text b f j) ≤ line_room
 unfolding entry_text
 entry_text_fits b f j = entry_fits b (list_of b j) j (is_wrong_entry f j)

@@ -1,7 +1,8 @@
 -- An entry lies in the list of the slot that `list_of` gives. No list before it ends after the entry, and from one entry to the next
 -- the slot does not go down: so one pass over the slots finds the slots of all entries.
-use Prim.Native.Nat.{ℕ, zero, suc, ◌+◌, ◌-◌, ◌^◌, ◌≤◌, ◌<◌}
-use Rattle.std.specs.Prelude.{◌≡◌, List, leb, ltb}
+use Prim.Native.Nat.{ℕ, zero, suc, ◌+◌, ◌≤◌, ◌<◌}
+use Rattle.std.specs.Prelude.{◌≡◌, List, leb, ltb, Option, Some, None, MatchOption}
+use Rattle.std.specs.Option.{unwrap_or}
 use Rattle.std.proofs.Common.{add-one, arith}
 use Rattle.std.proofs.Math.Decide.{dec_lt}
 use borrow.Author.Tests.{le-leb, leb-true, ltb-true, ltb-false}
@@ -41,33 +42,19 @@ module _ (b : List ℕ) (j : ℕ) where
         go (yes l) = l
         go (no g) = absurd (omega (arith, before (slot_count b) (omega arith), passed.last))
 
-    -- p is not after that slot; n is where the list of p ends
-    module _ (p : ℕ) (so_far : p ≤ list_of b j) where
-      pub list_place : j < child_count b → p + 1 ≤ slot_count b
-      list_place h = omega (arith, list_there h)
-
-      pub list_fits : j < child_count b → p + 1 < 2 ^ 32
-      list_fits h = omega (arith, list_there h, passed.whole.sized.slots_to)
-
-      module _ (n : ℕ) (end_is : n ≡ offset b (p + 1)) where
-        pub list_behind : j < child_count b → n ≤ j → p + 1 ≤ list_of b j
-        list_behind h l = go (dec_lt p (list_of b j))
-          where
-            go : Dec (p < list_of b j) → p + 1 ≤ list_of b j
-            go (yes k) = omega arith
-            go (no g) =
-                let e : p ≡ list_of b j = omega arith in
-                absurd (omega (arith, rw (← e) at (list_bounds (list_there h)).1))
-
-        pub list_nearer : j < child_count b → n ≤ j → list_of b j - (p + 1) < list_of b j - p
-        list_nearer h l = omega (arith, list_behind h l)
-
-        pub list_found : j < n → p ≡ list_of b j
-        list_found l = go (dec_lt p (list_of b j))
-          where
-            go : Dec (p < list_of b j) → p ≡ list_of b j
-            go (yes k) = absurd (omega (arith, before (p + 1) (omega arith)))
-            go (no g) = omega arith
+    -- o is what a search for the first list that ends after the entry answers, which starts at slot `from`; n is the number of slots
+    pub list_found : (from n : ℕ) (o : Option ℕ) → from ≤ list_of b j → j < child_count b → n ≡ slot_count b
+        → MatchOption o ((k : ℕ) → from ≤ k → k < n → offset b (k + 1) ≤ j) (λ p. (from ≤ p) × (p < n) × (j < offset b (p + 1)) × ((k : ℕ) → from ≤ k → k < p → offset b (k + 1) ≤ j))
+        → unwrap_or o n ≡ list_of b j
+    list_found from n None h l e none =
+        let there : list_of b j < slot_count b = list_there l in
+        absurd (omega (arith, none (list_of b j) h (omega arith), (list_bounds there).1))
+    list_found from n (Some p) h l e (at, slot, ends, none) = go (dec_lt p (list_of b j)) (dec_lt (list_of b j) p)
+      where
+        go : Dec (p < list_of b j) → Dec (list_of b j < p) → p ≡ list_of b j
+        go (yes k) d = absurd (omega (arith, before (p + 1) (omega arith)))
+        go (no g) (yes k) = absurd (omega (arith, none (list_of b j) h k, (list_bounds (list_there l)).1))
+        go (no g) (no f) = omega arith
 
 -- the slot of the next entry is not before that of this one
 pub list_on : (b : List ℕ) (j p : ℕ) → Passed b → p ≡ list_of b j → p ≤ list_of b (j + 1)

@@ -3,59 +3,45 @@
 
 ghost use Rattle.std.specs.Prelude.{◌≡◌, cond, ◌≤◌, ◌<◌};
 ghost use Rattle.lxtr_spec.specs.Image.{slot_count, child_count, has_leaf};
-ghost use Rattle.lxtr_laws.specs.Passed.{Whole, Passed};
 ghost use Rattle.lxtr_command_spec.specs.Drawings.{colour, slot_line, step_line, entry_line, is_wrong_slot, is_wrong_entry, is_drawn, slot_text, step_text, list_of, entry_text};
 ghost use Rattle.lxtr_text.specs.Appends.{Appended};
 
-use lxtr_image::code_map::{label_at, label_count};
-use lxtr_image::joining::code_to;
-use lxtr_image::lists::{child_at, offset_at};
-use lxtr_image::nodes::{
-    base_of, base_word, check_word, has_leaf, is_leaf, parent_of, value_number,
-};
-use lxtr_image::sections::slot_count;
+use lxtr_image::Image;
 use lxtr_spec::Fault;
 use lxtr_text::forms::fill;
 
 // Red for a slot or entry that is wrong, dark grey for any other.
+#[tactic(auto, unfolding(lxtr_command_spec::specs::Drawings::colour))]
 fn colour(wrong: bool) -> u32
     ensures { result ≡ colour wrong }
 {
-    if wrong {
-        return 0xE00000;
-    }
-    0x202020
+    if wrong { 0xE00000 } else { 0x202020 }
 }
 
 // How many borders a slot has: two if its prefix is a key, otherwise one.
-fn borders(image: &[u8], s: u32) -> u32
-    requires whole { Whole image.now }
-    requires s_bound { s < slot_count image.now }
+fn borders(image: &Image, s: u32) -> u32
+    requires { s < slot_count image.now }
     ensures { result ≡ cond (has_leaf image.now s) 2 1 }
 {
-    if has_leaf(image, s) {
-        return 2;
-    }
-    1
+    if image.has_leaf(s) { 2 } else { 1 }
 }
 
 // Writes the line of a slot, with its base or value and its parent.
-fn slot_line(image: &[u8], s: u32, wrong: bool, line: &mut [u8]) -> usize
-    requires whole { Whole image.now }
-    requires s_bound { s < slot_count image.now }
+fn slot_line(image: &Image, s: u32, wrong: bool, line: &mut [u8]) -> usize
+    requires { s < slot_count image.now }
     ensures { Appended line.old 0 (slot_line image.now s wrong) line.new result }
 {
     let tint = colour(wrong);
-    let parent = parent_of(image, s);
-    if is_leaf(image, s) {
-        let value = value_number(image, s);
+    let parent = image.parent(s);
+    if image.is_leaf(s) {
+        let value = image.value_number(s);
         return fill(
             b"  s% [label=\"slot %\\nvalue %\\nparent %\", style=rounded, color=\"#$\", fontcolor=\"#$\"];\n",
             &[s, s, value, parent, tint, tint],
             line,
         );
     }
-    let base = base_of(image, s);
+    let base = image.base(s);
     let count = borders(image, s);
     fill(
         b"  s% [label=\"slot %\\nbase %\\nparent %\", peripheries=%, color=\"#$\", fontcolor=\"#$\"];\n",
@@ -65,17 +51,16 @@ fn slot_line(image: &[u8], s: u32, wrong: bool, line: &mut [u8]) -> usize
 }
 
 // Writes the line of the step from slot p to slot s, with its label.
-fn step_line(image: &[u8], p: u32, s: u32, line: &mut [u8]) -> usize
-    requires passed { Passed image.now }
-    requires p_bound { p < slot_count image.now }
+fn step_line(image: &Image, p: u32, s: u32, line: &mut [u8]) -> usize
+    requires { p < slot_count image.now }
     ensures { Appended line.old 0 (step_line image.now p s) line.new result }
 {
-    let code = code_to(image, p, s);
+    let code = image.code_to(p, s);
     if code == 0 {
         return fill(b"  s% -> s% [label=\"end\"];\n", &[p, s], line);
     }
-    if code <= label_count(image) {
-        let label = label_at(image, code - 1);
+    if code <= image.label_count() {
+        let label = image.label(code - 1);
         return fill(
             b"  s% -> s% [label=\"@ $\"];\n",
             &[p, s, label, label],
@@ -86,13 +71,12 @@ fn step_line(image: &[u8], p: u32, s: u32, line: &mut [u8]) -> usize
 }
 
 // Writes the line of entry j of the children, in the list of slot p.
-fn entry_line(image: &[u8], p: u32, j: u32, wrong: bool, line: &mut [u8]) -> usize
-    requires whole { Whole image.now }
-    requires j_bound { j < child_count image.now }
+fn entry_line(image: &Image, p: u32, j: u32, wrong: bool, line: &mut [u8]) -> usize
+    requires { j < child_count image.now }
     ensures { Appended line.old 0 (entry_line image.now p j wrong) line.new result }
 {
     let tint = colour(wrong);
-    let child = child_at(image, j);
+    let child = image.child(j);
     fill(
         b"  s% -> s% [label=\"entry %\", style=dashed, constraint=false, color=\"#$\", fontcolor=\"#$\"];\n",
         &[p, child, j, tint, tint],
@@ -101,53 +85,47 @@ fn entry_line(image: &[u8], p: u32, j: u32, wrong: bool, line: &mut [u8]) -> usi
 }
 
 // Whether slot s is the one at fault.
-fn is_wrong_slot(fault: Fault, s: u32) -> bool
+#[tactic(auto, unfolding(lxtr_command_spec::specs::Drawings::is_wrong_slot))]
+fn is_wrong_slot(fault: Option<Fault>, s: u32) -> bool
     ensures { result ≡ is_wrong_slot fault s }
 {
     match fault {
-        Fault::Slot(t) => s == t,
-        Fault::Offset(t) => s == t,
-        Fault::Unlisted(t) => s == t,
-        Fault::Childless(t) => s == t,
-        Fault::RootBase => s == 1,
-        Fault::Unreachable(t) => s == t,
-        Fault::Nowhere => false,
-        Fault::Label(_) => false,
-        Fault::Entry(_, _) => false,
+        Some(
+            Fault::Slot(t)
+            | Fault::Offset(t)
+            | Fault::Unlisted(t)
+            | Fault::Childless(t)
+            | Fault::Unreachable(t),
+        ) => s == t,
+        Some(Fault::RootBase) => s == 1,
+        Some(Fault::Label(_) | Fault::Entry(_, _)) | None => false,
     }
 }
 
 // Whether entry j is the one at fault.
-fn is_wrong_entry(fault: Fault, j: u32) -> bool
+#[tactic(auto, unfolding(lxtr_command_spec::specs::Drawings::is_wrong_entry))]
+fn is_wrong_entry(fault: Option<Fault>, j: u32) -> bool
     ensures { result ≡ is_wrong_entry fault j }
 {
     match fault {
-        Fault::Entry(_, i) => j == i,
-        Fault::Nowhere => false,
-        Fault::Label(_) => false,
-        Fault::Slot(_) => false,
-        Fault::Offset(_) => false,
-        Fault::Unlisted(_) => false,
-        Fault::Childless(_) => false,
-        Fault::RootBase => false,
-        Fault::Unreachable(_) => false,
+        Some(Fault::Entry(_, i)) => j == i,
+        _ => false,
     }
 }
 
 // Whether slot s is drawn: it is slot 1, holds something or is at fault.
-fn is_drawn(image: &[u8], fault: Fault, s: u32) -> bool
-    requires whole { Whole image.now }
-    requires s_bound { s < slot_count image.now }
+#[tactic(auto, unfolding(lxtr_spec::specs::Refusals::both_zero, lxtr_command_spec::specs::Drawings::is_drawn))]
+fn is_drawn(image: &Image, fault: Option<Fault>, s: u32) -> bool
+    requires { s < slot_count image.now }
     ensures { result ≡ is_drawn image.now fault s }
 {
-    let empty = (base_word(image, s) == 0) & (check_word(image, s) == 0);
+    let empty = (image.base_word(s) == 0) & (image.check_word(s) == 0);
     (s == 1) | !empty | is_wrong_slot(fault, s)
 }
 
 // What is drawn of slot s itself, which may be nothing.
-pub fn slot_text(image: &[u8], fault: Fault, s: u32, line: &mut [u8]) -> usize
-    requires whole { Whole image.now }
-    requires s_bound { s < slot_count image.now }
+pub fn slot_text(image: &Image, fault: Option<Fault>, s: u32, line: &mut [u8]) -> usize
+    requires { s < slot_count image.now }
     ensures { Appended line.old 0 (slot_text image.now fault s) line.new result }
 {
     if !is_drawn(image, fault, s) {
@@ -158,16 +136,15 @@ pub fn slot_text(image: &[u8], fault: Fault, s: u32, line: &mut [u8]) -> usize
 
 // What is drawn of the step to slot s: nothing if its parent is 0 or not a slot. A slot with a parent holds something, so it is
 // drawn too.
-pub fn step_text(image: &[u8], s: u32, line: &mut [u8]) -> usize
-    requires passed { Passed image.now }
-    requires s_bound { s < slot_count image.now }
+pub fn step_text(image: &Image, s: u32, line: &mut [u8]) -> usize
+    requires { s < slot_count image.now }
     ensures { Appended line.old 0 (step_text image.now s) line.new result }
 {
-    let p = parent_of(image, s);
+    let p = image.parent(s);
     if p == 0 {
         return 0;
     }
-    if slot_count(image) <= p {
+    if image.slot_count() <= p {
         return 0;
     }
     step_line(image, p, s, line)
@@ -175,22 +152,20 @@ pub fn step_text(image: &[u8], s: u32, line: &mut [u8]) -> usize
 
 // The first slot in whose list entry j lies. The search starts at slot `from`, which is not after it. It is the first slot whose
 // list ends after the entry, so only the ends of the lists are compared.
-pub fn list_of(image: &[u8], from: u32, j: u32) -> u32
-    requires passed { Passed image.now }
+pub fn list_of(image: &Image, from: u32, j: u32) -> u32
     requires j_bound { j < child_count image.now }
     requires from_bound { from ≤ list_of image.now j }
     ensures { result ≡ list_of image.now j }
 {
-    let mut p = from;
-    while offset_at(image, p + 1) <= j {
-        p += 1;
-    }
-    p
+    let _ = image.bytes(); // the last list ends after all entries, so there is such a slot
+    let slots = image.slot_count();
+    (from..slots)
+        .find(|&p| j < image.offset(p + 1))
+        .unwrap_or(slots)
 }
 
 // What is drawn of entry j of the children; p is the slot in whose list it lies.
-pub fn entry_text(image: &[u8], fault: Fault, p: u32, j: u32, line: &mut [u8]) -> usize
-    requires whole { Whole image.now }
+pub fn entry_text(image: &Image, fault: Option<Fault>, p: u32, j: u32, line: &mut [u8]) -> usize
     requires j_bound { j < child_count image.now }
     requires p_value { p ≡ list_of image.now j }
     ensures { Appended line.old 0 (entry_text image.now fault j) line.new result }

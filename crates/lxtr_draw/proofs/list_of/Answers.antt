@@ -1,0 +1,13 @@
+-- The search answers the slot, since there is one.
+use Rattle.std.proofs.Common.{◌≡◌, ◌+◌, ◌≤◌, ◌<◌, ◌∙◌, rules, tests, arith}
+use Rattle.std.proofs.lemmas.Iterator.{first_from_Range}
+use Rattle.lxtr_spec.specs.Image.{offset}
+use Rattle.lxtr_draw.specs.EntryLists.{list_found}
+use Rattle.lxtr_draw.proofs.list_of.Goals as goal
+
+pub returns : goal.returns
+returns c =
+    c.unwrap_or.ensures
+    ∙ list_found _ _ c.bytes.ensures.passed _ _ _ c.requires.from_bound c.requires.j_bound c.slot_count-slots.ensures.value
+    (first_from_Range _ _ _ _ (λ p. c.args.j < offset c.args.image.now (p + 1)) (λ p. offset c.args.image.now (p + 1) ≤ c.args.j) c.find.ensures.ran
+    (λ x q k. search (rules, tests)) (λ x q k. search (rules, tests)))
