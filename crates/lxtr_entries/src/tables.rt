@@ -163,6 +163,7 @@ impl<'a> EntryTable<'a> {
     }
 
     // Where the entries of value v lie.
+    #[tactic(auto, using(crate::specs::Locating::value_refused, crate::specs::Locating::pair_read))]
     pub fn locate(&self, v: u32) -> Result<Entries, EntryRefusal>
         ensures { found_in result ≡ located_value self.now v }
     {

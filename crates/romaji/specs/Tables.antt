@@ -5,8 +5,8 @@ use native.Mathlib.Omega.{arith}
 use Rattle.std.proofs.Common.{◌≢◌, below_more, get_or-set_other, get_or-set_same, add-one, ap, ◌∙◌, drop_of_length-le, take_all}
 use Rattle.std.proofs.Math.Path.{refl, sym}
 use Rattle.std.proofs.Math.Bool.{true, false}
-use mathlib.Core.List.{List}
-use Rattle.std.proofs.Math.ListN.{get_or, length-drop, length-set}
+use mathlib.Core.List.{List, ◌++◌}
+use Rattle.std.proofs.Math.ListN.{get_or, get_or-append, length-append, length-drop, length-set}
 use Rattle.std.proofs.Math.Seq.{take-nil}
 use Rattle.std.proofs.Math.Dec.{ltb}
 use borrow.Author.Tests.{lt-ltb, le-ltb, ltb-true, ltb-false, leb-true, leb-false}
@@ -88,22 +88,29 @@ pub record Indexed (kana places : List ℕ) (n : ℕ) : Type 0 where
   pub within : n ≤ length places
   pub are : (i : ℕ) → i < n → Begins kana i (get_or places i 0)
 
--- the loop that finds them: the first i are in the array
-pub record PlacesPut (kana : List ℕ) (i at : ℕ) (places : List ℕ) : Type 0 where
-  pub size : length places ≡ most_places
+-- the loop that finds them: the first i of n are in the front part of the array
+pub record PlacesPut (kana : List ℕ) (n i at : ℕ) (front : List ℕ) : Type 0 where
+  pub size : length front ≡ n
   pub begins : Begins kana i at
-  pub are : (k : ℕ) → k < i → Begins kana k (get_or places k 0)
+  pub are : (k : ℕ) → k < i → Begins kana k (get_or front k 0)
 
-module _ (kana : List ℕ) where
-  pub places_start : (places : List ℕ) → length places ≡ most_places → PlacesPut kana 0 0 places
-  places_start places size = record { size = size; begins = begins_first kana; are = λ k h. absurd (omega arith) }
+module _ (kana : List ℕ) (n : ℕ) where
+  pub places_start : (front : List ℕ) → length front ≡ n → PlacesPut kana n 0 0 front
+  places_start front e = record { size = e; begins = begins_first kana; are = λ k h. absurd (omega arith) }
 
-  pub places_next : (i at : ℕ) (places : List ℕ) → PlacesPut kana i at places → (at' : ℕ) → at' ≡ min (text_end kana at) (length kana) → i < most_places
-      → PlacesPut kana (i + 1) at' (set places i at)
-  places_next i at places before at' e l = let h : i < length places = omega (arith, before.size) in record {
-    size = length-set places i at ∙ before.size;
-    begins = begins_next kana i at before.begins at' e;
-    are = below_more _ _
-        (λ k m. let ne : k ≢ i = omega arith in rw get_or-set_other (before.are k m))
-        (rw get_or-set_same before.begins);
-  }
+  module _ (i at : ℕ) (front : List ℕ) (before : PlacesPut kana n i at front) where
+    pub places_next : (at' : ℕ) → at' ≡ min (text_end kana at) (length kana) → i < length front → PlacesPut kana n (i + 1) at' (set front i at)
+    places_next at' e h = record {
+      size = length-set front i at ∙ before.size;
+      begins = begins_next kana i at before.begins at' e;
+      are = below_more _ _
+          (λ k m. let ne : k ≢ i = omega arith in rw get_or-set_other (before.are k m))
+          (rw get_or-set_same before.begins);
+    }
+
+    pub places_end : 1 ≤ n → length front ≤ i → (behind : List ℕ) → Indexed kana (front ++ behind) n
+    places_end some end behind = record {
+      some = some;
+      within = omega (arith, length-append front behind, before.size);
+      are = λ k h. let l : k < length front = omega (arith, before.size) in rw (get_or-append front behind 0 k l) (before.are k (omega arith));
+    }

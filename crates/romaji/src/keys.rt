@@ -1,5 +1,5 @@
 // The keys of an image, which are romaji: what a query is to them. A query that the image refuses is nothing to them.
-ghost use Rattle.std.specs.Prelude.{◌≡◌, [], true, false, ◌&&◌, ◌%◌, length, MatchResult};
+ghost use Rattle.std.specs.Prelude.{◌≡◌, true, false, ◌&&◌, ◌%◌, length, MatchResult};
 ghost use Rattle.lxtr_spec.specs.Searches.{case_longer, lookup_of};
 ghost use Rattle.romaji_spec.specs.Typing.{has_empty_key, typing_number};
 ghost use Rattle.romaji.specs.NextPieces.{Looked, FrontIs};

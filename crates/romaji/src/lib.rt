@@ -64,6 +64,7 @@ fn convert(
 
 // Types bytes: the kana of what is kept and typed goes out, from the room's front, and the number of its labels is the answer. A rest
 // that could still grow is kept in the state. A refusal leaves state and room as they were.
+#[tactic(auto, unfolding(romaji_spec::specs::Typing::type_of))]
 pub fn type_bytes(
     image: &[u8],
     kana: &[u8],
@@ -77,6 +78,7 @@ pub fn type_bytes(
 }
 
 // Finishes: the kana of what is kept goes out, and nothing is kept.
+#[tactic(auto, unfolding(romaji_spec::specs::Typing::finish_of))]
 pub fn finish(
     image: &[u8],
     kana: &[u8],

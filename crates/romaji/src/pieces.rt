@@ -68,6 +68,7 @@ impl<'a> Conversion<'a> {
     }
 
     // How many labels go out for a piece: for the text of a value, or for a byte that passes.
+    #[tactic(auto, using(crate::specs::NextPieces::text_count, crate::specs::NextPieces::byte_count))]
     fn out_count(&self, value: Option<u32>) -> usize
         ensures { result ≡ length (out_by self.now.kana 0 value) }
     {

@@ -1,6 +1,6 @@
 // The kana table: where the text of a value lies, and whether the texts of all values of an image are whole. The places of the
 // first texts are kept, because to find a text by the length bytes before it takes longer the higher its value is.
-ghost use Rattle.std.specs.Prelude.{◌≡◌, ◌*◌, ◌^◌, ◌≤◌, ◌<◌, min, length, take};
+ghost use Rattle.std.specs.Prelude.{◌≡◌, ◌≤◌, min, length};
 ghost use Rattle.romaji_spec.specs.KanaTables.{text_end, text_at, text_bytes, text_cut, table_short};
 ghost use Rattle.romaji.specs.Tables.{most_places};
 
@@ -14,10 +14,7 @@ const INDEXED: usize = 512;
 fn place_count(highest: Option<u32>) -> usize
     ensures { (1 ≤ result) × (result ≤ most_places) }
 {
-    match highest {
-        Some(v) => (v as usize + 1).min(INDEXED),
-        None => 1,
-    }
+    highest.map_or(1, |v| (v as usize + 1).min(INDEXED))
 }
 
 // Where the text ends whose length byte is at `at`, or the table's length if the table ends before that.
@@ -61,8 +58,8 @@ impl<'a> Kana<'a> {
         let count = place_count(highest);
         let mut places = [0; INDEXED];
         let mut at = 0;
-        for i in 0..count {
-            places[i] = at;
+        for place in places[..count].iter_mut() {
+            *place = at;
             at = text_end(bytes, at);
         }
         Kana {
@@ -104,6 +101,7 @@ impl<'a> Kana<'a> {
     }
 
     // Whether the table ends before the text of value v is whole.
+    #[tactic(auto, using(crate::specs::Tables::cut_past, crate::specs::Tables::cut_here))]
     fn text_cut(&self, v: u32) -> bool
         ensures { result ≡ text_cut self.now v }
     {

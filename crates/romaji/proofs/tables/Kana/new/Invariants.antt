@@ -2,5 +2,5 @@
 use Rattle.romaji.specs.Tables.{PlacesPut}
 use Rattle.romaji.proofs.tables.Kana.new.Given as goal
 
-abbrev pub invariant-loop-i : goal.invariant-loop-i
-invariant-loop-i l = PlacesPut l.bytes l.i l.at l.places
+abbrev pub invariant-loop-place : goal.invariant-loop-place
+invariant-loop-place l = PlacesPut l.bytes l.count l.place-index l.at l.place-items
