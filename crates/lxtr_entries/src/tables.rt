@@ -154,7 +154,8 @@ impl<'a> EntryTable<'a> {
         if to < from {
             return Err(EntryRefusal::TableMalformed);
         }
-        if self.entry_count() < to as usize {
+        let end = to as usize;
+        if self.entry_count() < end {
             return Err(EntryRefusal::TableMalformed);
         }
         let count = to - from;
