@@ -22,7 +22,6 @@ use lxtr_host::numbers::{
 };
 use lxtr_host::places::{put_first, put_places};
 use lxtr_position::Position;
-use lxtr_position::numbers::{position_number, position_of};
 use lxtr_search::{longest, lookup, prefixes};
 use lxtr_spec::refusals::{Numbered, Refusal};
 use lxtr_walk::{open, value_at, walk_within};
@@ -120,7 +119,7 @@ pub extern "C" fn lxtr_prefixes(image: &[u8], query: &[u8], places: &mut [u32]) 
 pub extern "C" fn lxtr_position_fresh() -> u64
     ensures { result ≡ host_fresh }
 {
-    position_number(Position::fresh())
+    u64::from(Position::fresh())
 }
 
 // The position after one more label.
@@ -128,9 +127,9 @@ pub extern "C" fn lxtr_position_fresh() -> u64
 pub extern "C" fn lxtr_position_push(image: &[u8], position: u64, label: u32) -> u64
     ensures { result ≡ host_push_of image.now position label }
 {
-    let mut moved = position_of(position);
+    let mut moved = Position::from(position);
     let _ = moved.push(image, label); // a refusal leaves it
-    position_number(moved)
+    u64::from(moved)
 }
 
 // The position after the last label is taken back.
@@ -138,9 +137,9 @@ pub extern "C" fn lxtr_position_push(image: &[u8], position: u64, label: u32) ->
 pub extern "C" fn lxtr_position_back(image: &[u8], position: u64) -> u64
     ensures { result ≡ host_back_of image.now position }
 {
-    let mut moved = position_of(position);
+    let mut moved = Position::from(position);
     let _ = moved.back(image); // a refusal leaves it
-    position_number(moved)
+    u64::from(moved)
 }
 
 // What the probe answers for the labels typed so far.
@@ -148,7 +147,7 @@ pub extern "C" fn lxtr_position_back(image: &[u8], position: u64) -> u64
 pub extern "C" fn lxtr_position_probe(image: &[u8], position: u64) -> u64
     ensures { result ≡ position_probe_number image.now position }
 {
-    case_numbered(position_of(position).lookup(image))
+    case_numbered(Position::from(position).lookup(image))
 }
 
 // Completions: how many records are in the room, and whether the listing stopped for lack of room.

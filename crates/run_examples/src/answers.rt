@@ -79,7 +79,10 @@ fn say_prefixes(found: Prefixes) {
 pub fn prefixes(image: &[u8], query: &[u8]) {
     let answer = lxtr_search::prefixes(image, query);
     say_refusal(&answer);
-    say_prefixes(answer.unwrap_or(Prefixes::new()));
+    match answer {
+        Ok(found) => say_prefixes(found),
+        Err(_) => print_number(0),
+    }
 }
 
 pub fn longest(image: &[u8], query: &[u8]) {
