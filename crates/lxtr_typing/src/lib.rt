@@ -63,15 +63,14 @@ fn first_labels(room: &[u8], count: usize) -> &[u8] {
 // Prints what the state keeps: each byte is the label of its number.
 fn print_kept(state: State) {
     let mut room = [0u8; PART_BYTES];
-    let mut at = 3;
+    let mut labels = Line::new(&mut room);
     for byte in state.kept {
-        room[at] = byte;
-        at += 4;
+        labels.push_all(&[0, 0, 0, byte]);
     }
     print_labels(
         Sentence::Waits,
         Sentence::NothingWaits,
-        first_labels(&room, state.count as usize),
+        first_labels(labels.as_slice(), state.count as usize),
     );
 }
 
