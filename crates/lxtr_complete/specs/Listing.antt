@@ -1,17 +1,17 @@
 -- The listing of the pairs below a slot, as the code makes it: a record for its end, then for each other entry all pairs below it.
 -- The path holds the labels of the key. After each entry, what is left to do completes the whole.
 use Prim.Native.Nat.{ℕ, suc, ◌+◌, ◌-◌, ◌≤◌, ◌<◌}
-use Rattle.std.specs.Prelude.{◌≡◌, ◌≢◌, Bool, not, cond, eqb, set, get_or}
+use Rattle.std.specs.Prelude.{◌≡◌, ◌≢◌, Bool, not, cond, eqb, set}
 use Rattle.std.proofs.Math.Path.{refl, sym, ap}
 use Rattle.std.proofs.Common.{◌∙◌, true≢false, sub-eq-zero_of_le, add-zero, add-one}
 use mathlib.Core.List.{List, [], ◌∷◌, ◌++◌}
 use Rattle.std.proofs.Math.Bool.{true, false}
 use native.Mathlib.Omega.{arith}
-use Rattle.std.proofs.Math.ListN.{length, take, length-set}
-use Rattle.std.proofs.Math.Seq.{take-take, take-set-le, take-suc-set, get_or-set_same}
+use Rattle.std.proofs.Math.ListN.{length, take, length-set, length-take}
+use Rattle.std.proofs.Math.Seq.{take-take, take-set-le, take-suc-set}
 use borrow.Author.Tests.{eqb-true, eqb-false, eq-eqb, ne_eqb, lt-ltb}
 use Rattle.lxtr_spec.specs.Ranges.{concat_from}
-use Rattle.lxtr_spec.specs.Labels.{length_count, Pair}
+use Rattle.lxtr_spec.specs.Labels.{max_labels, length_count, Pair}
 use Rattle.lxtr_spec.specs.Joining.{code_under}
 use Rattle.lxtr_spec.specs.Image.{slot_count, child_count, is_leaf, value_number, base, code_to, offset, child, list_width, label_count, label_of_code, label_at, has_leaf, has_parent, slot_from}
 use Rattle.lxtr_spec.specs.Refusals.{own_code, end_exists}
@@ -22,7 +22,7 @@ use Rattle.lxtr_laws.specs.Tests.{not_is_true}
 use Rattle.lxtr_laws.specs.JoiningLaws.{slot_of_base, slot_by_code}
 use Rattle.lxtr_laws.specs.Facts.{Accepted}
 use Rattle.lxtr_laws.specs.ListEntries.{child_used, place_below, code_from_lem, code_below}
-use Rattle.lxtr_complete.specs.RecordWriting.{State, state, put, after, InRoom, PutReady, after_append, after_stopped, in_room_after}
+use Rattle.lxtr_complete.specs.RecordWriting.{State, put, after, after_append, after_stopped}
 
 -- a code of the code map
 pub record CodeListed (b : List ℕ) (c : ℕ) : Type 0 where
@@ -50,12 +50,10 @@ pub record Kept (len : ℕ) (path path' : List ℕ) : Type 0 where
   pub long : length path' ≡ length path
 
 -- what the listing below a slot requires, with `left` labels still allowed
-pub record ListReady (b : List ℕ) (left n : ℕ) (path room : List ℕ) (at count : ℕ) : Type 0 where
+pub record ListReady (b : List ℕ) (left n : ℕ) (path : List ℕ) : Type 0 where
   pub slot_below : n < slot_count b
   pub labels_left : left ≤ length_count
   pub path_long : length path ≡ length_count
-  pub at_in : at ≤ length room
-  pub count_in : count < at
 
 module _ (b : List ℕ) (a j s c : ℕ) (at : s ≡ child b j) (code : c ≡ code_under a s) where
   pub inner_entry : (x : ℕ) → x ≡ label_at b (c - 1) → EntryOf b a j s x
@@ -136,20 +134,19 @@ module _ (b : List ℕ) (ok : Accepted b) (n : ℕ) (slot : n < slot_count b) wh
         }
 
 -- the record of the end
-module _ (b : List ℕ) (n ends len : ℕ) (path : List ℕ) (s₀ : State) where
-  pub end_none : ends ≡ 0 → s₀ ≡ after s₀ (end_pairs b n ends (take len path))
+module _ (b : List ℕ) (n ends : ℕ) (key : List ℕ) (s₀ : State) where
+  pub end_none : ends ≡ 0 → s₀ ≡ after s₀ (end_pairs b n ends key)
   unfolding end_pairs after
   end_none e = rw (eq-eqb ends 0 e)
 
-  pub end_place : EndsOf b n ends → (ends ≡ 0 → ⊥) → (f : ℕ) → f ≡ offset b n → InList b n f
-  end_place known z f from = record { from = omega arith; to = omega (arith, known.within, (known.first z).0) }
-
   -- t is the child that is the end, and v its value
-  pub end_put : (ends ≡ 0 → ⊥) → (r : List ℕ) (at count : ℕ) → PutReady len path r at count → (f t v : ℕ) → f ≡ offset b n → t ≡ child b f → v ≡ value_number b t
-      → (s : State) → s ≡ put s₀ (take len (set path len v), get_or (set path len v) len 0) → s ≡ after s₀ (end_pairs b n ends (take len path))
+  pub end_put : (ends ≡ 0 → ⊥) → (f t v : ℕ) → f ≡ offset b n → t ≡ child b f → v ≡ value_number b t → (s : State) → s ≡ put s₀ (key, v) → s ≡ after s₀ (end_pairs b n ends key)
   unfolding end_pairs after
-  end_put z r i c p f t v from at value s e =
-      e ∙ rw (ne_eqb ends 0 z, take-set-le len path len v (omega arith), get_or-set_same path len v 0 (omega (arith, p.path_long, p.len_small)), value, at, from)
+  end_put z f t v from at value s e = e ∙ rw (ne_eqb ends 0 z, value, at, from)
+
+-- if there is an end, the list has a place
+pub end_place : (b : List ℕ) (n ends : ℕ) → EndsOf b n ends → (ends ≡ 0 → ⊥) → (f : ℕ) → f ≡ offset b n → InList b n f
+end_place b n ends known z f from = record { from = omega arith; to = omega (arith, known.within, (known.first z).0) }
 
 -- the end and then the entries after it are all entries
 end_first : (b : List ℕ) (n ends : ℕ) → EndsOf b n ends → (below : ℕ → List ℕ → List Pair) (key : List ℕ) (s : State)
@@ -170,12 +167,6 @@ end_first b n ends known below key s = go (eqb ends 0) refl
 pub kept_none : (len : ℕ) (path : List ℕ) → Kept len path path
 kept_none len path = record { same = refl; long = refl }
 
-pub ready_set : (len v : ℕ) (path r : List ℕ) (at count : ℕ) → PutReady len path r at count → PutReady len (set path len v) r at count
-ready_set len v path r at count p = record { path_long = length-set path len v ∙ p.path_long; len_small = p.len_small; at_in = p.at_in; count_in = p.count_in }
-
-pub kept_set : (len x : ℕ) (path : List ℕ) → Kept len path (set path len x)
-kept_set len x path = record { same = take-set-le len path len x (omega arith); long = length-set path len x }
-
 -- what is left to do from entry j up to `end`
 abbrev rest_of : List ℕ → ℕ → ℕ → List ℕ → ℕ → ℕ → List Pair
 rest_of b left n key end j = concat_from (end - j) j (entry_pairs b (list_from b (left - 1)) n key)
@@ -184,64 +175,48 @@ rest_of b left n key end j = concat_from (end - j) j (entry_pairs b (list_from b
 -- was left when the loop started, and the labels of the key stay in the path.
 pub record ListedSoFar (b : List ℕ) (left n len end j₁ j : ℕ) (path₁ path : List ℕ) (s₁ s : State) : Type 0 where
   pub todo : after s (rest_of b left n (take len path₁) end j) ≡ after s₁ (rest_of b left n (take len path₁) end j₁)
-  pub place_from : j₁ ≤ j
   pub kept : Kept len path₁ path
-  pub room_length : length s.room ≡ length s₁.room
-  pub in_room : InRoom s
 
-module _ (b : List ℕ) (left n len : ℕ) (path₀ r₀ : List ℕ) (at₀ count₀ : ℕ) where
-  pub list_none : left ≡ 0 → state r₀ at₀ count₀ ≡ after (state r₀ at₀ count₀) (list_from b left n (take len path₀))
+module _ (b : List ℕ) (left n len : ℕ) (path₀ : List ℕ) (s₀ : State) where
+  pub list_none : left ≡ 0 → s₀ ≡ after s₀ (list_from b left n (take (length_count - left) path₀))
   unfolding list_from after
   list_none e = rw e
 
-  module _ (ready : ListReady b left n path₀ r₀ at₀ count₀) (z : left ≡ 0 → ⊥) (size : len ≡ length_count - left) where
-    pub end_ready : PutReady len path₀ r₀ at₀ count₀
-    end_ready = record {
-      path_long = ready.path_long;
-      len_small = omega (arith, ready.labels_left);
-      at_in = ready.at_in;
-      count_in = ready.count_in;
-    }
+  module _ (ready : ListReady b left n path₀) (z : left ≡ 0 → ⊥) (size : len ≡ length_count - left) where
+    pub end_key : length (take len path₀) ≤ max_labels
+    end_key = omega (arith, length-take len path₀)
 
     -- the end is listed
-    module _ (ends f end : ℕ) (known : EndsOf b n ends) (from : f ≡ offset b n) (to : end ≡ offset b (n + 1)) (path₁ : List ℕ) (s₁ : State)
-        (s₁_is : s₁ ≡ after (state r₀ at₀ count₀) (end_pairs b n ends (take len path₀))) (kept₁ : Kept len path₀ path₁) (room₁ : length s₁.room ≡ length r₀) where
-      pub going_start : ListedSoFar b left n len end (f + ends) (f + ends) path₁ path₁ s₁ s₁
-      going_start = record {
-        todo = refl;
-        place_from = omega arith;
-        kept = kept_none len path₁;
-        room_length = refl;
-        in_room = rw s₁_is (in_room_after (state r₀ at₀ count₀) (end_pairs b n ends (take len path₀)) (record { at_in = ready.at_in; count_in = λ _. ready.count_in }));
-      }
+    module _ (ends f end : ℕ) (known : EndsOf b n ends) (from : f ≡ offset b n) (to : end ≡ offset b (n + 1)) (s₁ : State) (s₁_is : s₁ ≡ after s₀ (end_pairs b n ends (take len path₀))) where
+      pub going_start : ListedSoFar b left n len end (f + ends) (f + ends) path₀ path₀ s₁ s₁
+      going_start = record { todo = refl; kept = kept_none len path₀ }
 
-      whole : after s₁ (rest_of b left n (take len path₁) end (f + ends)) ≡ after (state r₀ at₀ count₀) (list_from b left n (take (length_count - left) path₀))
+      whole : after s₁ (rest_of b left n (take len path₀) end (f + ends)) ≡ after s₀ (list_from b left n (take (length_count - left) path₀))
       unfolding list_from list_width
       whole =
           let m : left ≡ suc (left - 1) = omega arith in
-          rw (kept₁.same, s₁_is, from, to, ← size) (end_first b n ends known (list_from b (left - 1)) (take len path₀) (state r₀ at₀ count₀)
-          ∙ ap (λ (k : ℕ). after (state r₀ at₀ count₀) (list_from b k n (take len path₀))) (sym m))
+          rw (s₁_is, from, to, ← size) (end_first b n ends known (list_from b (left - 1)) (take len path₀) s₀ ∙ ap (λ (k : ℕ). after s₀ (list_from b k n (take len path₀))) (sym m))
 
-      module _ (j : ℕ) (path r : List ℕ) (here count : ℕ) (g : ListedSoFar b left n len end (f + ends) j path₁ path s₁ (state r here count)) where
-        pub going_end : end ≤ j → state r here count ≡ after (state r₀ at₀ count₀) (list_from b left n (take (length_count - left) path₀))
+      pub end_stopped : s₁.at ≡ 0 → s₁ ≡ after s₀ (list_from b left n (take (length_count - left) path₀))
+      end_stopped h = sym (after_stopped s₁ (rest_of b left n (take len path₀) end (f + ends)) h) ∙ whole
+
+      module _ (j : ℕ) (path : List ℕ) (s : State) (g : ListedSoFar b left n len end (f + ends) j path₀ path s₁ s) where
+        pub going_end : end ≤ j → s ≡ after s₀ (list_from b left n (take (length_count - left) path₀))
         unfolding concat_from after
         going_end h = rw (sub-eq-zero_of_le h) at g.todo ∙ whole
 
-        pub going_stopped : here ≡ 0 → state r 0 count ≡ after (state r₀ at₀ count₀) (list_from b left n (take (length_count - left) path₀))
-        going_stopped h = rw (← h) (sym (after_stopped (state r here count) (rest_of b left n (take len path₁) end j) h) ∙ g.todo ∙ whole)
+        pub going_stopped : s.at ≡ 0 → s ≡ after s₀ (list_from b left n (take (length_count - left) path₀))
+        going_stopped h = sym (after_stopped s (rest_of b left n (take len path₀) end j) h) ∙ g.todo ∙ whole
 
         pub going_kept : Kept (length_count - left) path₀ path
-        going_kept = rw (← size) (record { same = g.kept.same ∙ kept₁.same; long = g.kept.long ∙ kept₁.long })
+        going_kept = rw (← size) g.kept
 
-        pub going_room : length r ≡ length r₀
-        going_room = g.room_length ∙ room₁
-
-        module _ (ok : Accepted b) (h : j < end) where
+        module _ (ok : Accepted b) (since : f + ends ≤ j) (h : j < end) where
           place : InList b n j
-          place = record { from = omega (arith, g.place_from); to = omega arith }
+          place = record { from = omega arith; to = omega arith }
 
           inner : is_leaf b (child b j) ≡ false
-          inner = known.inner j place (omega (arith, g.place_from))
+          inner = known.inner j place (omega arith)
 
           pub going_place : j < child_count b
           going_place = place_below ok n j ready.slot_below place
@@ -260,32 +235,27 @@ module _ (b : List ℕ) (left n len : ℕ) (path₀ r₀ : List ℕ) (at₀ coun
 
             -- t is the child there, and x the label
             module _ (t x : ℕ) (e : EntryOf b a j t x) where
-              pub going_below : (here ≡ 0 → ⊥) → ListReady b (left - 1) t (set path len x) r here count
-              going_below go = record {
+              pub going_below : ListReady b (left - 1) t (set path len x)
+              going_below = record {
                 slot_below = rw e.slot_is (child_used ok j going_place).0;
                 labels_left = omega (arith, ready.labels_left);
-                path_long = length-set path len x ∙ g.kept.long ∙ kept₁.long ∙ ready.path_long;
-                at_in = g.in_room.at_in;
-                count_in = g.in_room.count_in go;
+                path_long = length-set path len x ∙ g.kept.long ∙ ready.path_long;
               }
 
-              pub going_on : (path' : List ℕ) (s' : State) → s' ≡ after (state r here count) (list_from b (left - 1) t (take (length_count - (left - 1)) (set path len x)))
-                  → Kept (length_count - (left - 1)) (set path len x) path' → length s'.room ≡ length r → ListedSoFar b left n len end (f + ends) (j + 1) path₁ path' s₁ s'
+              pub going_on : (path' : List ℕ) (s' : State) → s' ≡ after s (list_from b (left - 1) t (take (length_count - (left - 1)) (set path len x)))
+                  → Kept (length_count - (left - 1)) (set path len x) path' → ListedSoFar b left n len end (f + ends) (j + 1) path₀ path' s₁ s'
               unfolding concat_from entry_pairs list_from
-              going_on path' s' step q room =
+              going_on path' s' step q =
                   let size' : length_count - (left - 1) ≡ len + 1 = omega (arith, ready.labels_left) in
-                  let place' : len < length path = omega (arith, g.kept.long, kept₁.long, ready.path_long, ready.labels_left) in
-                  let key : take (len + 1) (set path len x) ≡ take len path₁ ++ x ∷ [] = rw (add-one len, take-suc-set path len x place', g.kept.same) in
+                  let place' : len < length path = omega (arith, g.kept.long, ready.path_long, ready.labels_left) in
+                  let key : take (len + 1) (set path len x) ≡ take len path₀ ++ x ∷ [] = rw (add-one len, take-suc-set path len x place', g.kept.same) in
                   let same : take (len + 1) path' ≡ take (len + 1) (set path len x) = rw size' at q.same in
-                  let pairs : entry_pairs b (list_from b (left - 1)) n (take len path₁) j ≡ list_from b (left - 1) t (take (length_count - (left - 1)) (set path len x)) =
+                  let pairs : entry_pairs b (list_from b (left - 1)) n (take len path₀) j ≡ list_from b (left - 1) t (take (length_count - (left - 1)) (set path len x)) =
                   rw (entry_pairs, inner, size', key, e.slot_is, e.label_is, code) in
                   record {
                     todo = rw (step, ← pairs, ← after_append) (rw (more end j h) at g.todo);
-                    place_from = omega (arith, g.place_from);
                     kept = record {
                       same = sym (take-take len (len + 1) path' (omega arith)) ∙ ap (take len) same ∙ take-take len (len + 1) (set path len x) (omega arith) ∙ take-set-le len path len x (omega arith) ∙ g.kept.same;
                       long = q.long ∙ length-set path len x ∙ g.kept.long;
                     };
-                    room_length = room ∙ g.room_length;
-                    in_room = rw step (in_room_after (state r here count) _ g.in_room);
                   }

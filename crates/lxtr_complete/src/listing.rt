@@ -1,20 +1,18 @@
 // Lists the pairs below a slot of an accepted image, each as a record in lent room. The labels from slot 1 to the slot are kept
 // at the front of a lent path.
-ghost use Rattle.std.specs.Prelude.{◌≡◌, ◌-◌, ◌<◌, take};
-ghost use Rattle.lxtr_spec.specs.Labels.{length_count};
+ghost use Rattle.std.specs.Prelude.{◌≡◌, ◌-◌, ◌<◌, ◌≤◌, length, take, IfNone};
+ghost use Rattle.lxtr_spec.specs.Labels.{max_labels, length_count};
 ghost use Rattle.lxtr_spec.specs.Image.{slot_count, child_count, child};
 ghost use Rattle.lxtr_spec.specs.Joining.{code_under};
 ghost use Rattle.lxtr_spec.specs.Completions.{list_from};
-ghost use Rattle.lxtr_laws.specs.Passed.{Passed};
-ghost use Rattle.lxtr_laws.specs.Facts.{Accepted};
-ghost use Rattle.lxtr_complete.specs.RecordWriting.{state, after, PutReady};
+ghost use Rattle.lxtr_complete.specs.RecordWriting.{after};
+ghost use Rattle.lxtr_complete.specs.Answers.{state_of};
 ghost use Rattle.lxtr_complete.specs.Listing.{CodeListed, EntryOf, EndsOf, end_pairs, Kept, ListReady};
 
-use crate::records::put_record;
-use lxtr_image::code_map::label_at;
-use lxtr_image::joining::{code_to, code_under};
-use lxtr_image::lists::{child_at, offset_at};
-use lxtr_image::nodes::{base_of, has_leaf, value_number};
+use crate::records::Records;
+use lxtr_check::AcceptedImage;
+use lxtr_image::Image;
+use lxtr_image::joining::code_under;
 use lxtr_spec::LENGTH_COUNT;
 
 // An entry of a children list that is not an end: the child, and the label that leads to it.
@@ -25,100 +23,91 @@ struct Entry {
 }
 
 // Entry j of the children array, which is in the list of a slot with this base.
-fn entry_at(image: &[u8], base: u32, j: u32) -> Entry
-    requires passed { Passed image.now }
+fn entry_at(image: &Image, base: u32, j: u32) -> Entry
     requires j_bound { j < child_count image.now }
     requires code_listed { CodeListed image.now (code_under base (child image.now j)) }
     ensures { EntryOf image.now base j result.slot result.label }
 {
-    let slot = child_at(image, j);
+    let slot = image.child(j);
     let code = code_under(base, slot);
     Entry {
         slot,
-        label: label_at(image, code - 1),
+        label: image.label(code - 1),
     }
 }
 
 // The number of ends in the list of slot n: 1 or 0. Codes rise along a list and the code of an end is 0, so only the first entry
 // can be an end. HAS_LEAF is tested first, because it is known sooner than the entry.
-fn ends_of(image: &[u8], n: u32) -> u32
-    requires accepted { Accepted image.now }
-    requires n_bound { n < slot_count image.now }
-    ensures { EndsOf image.now n result }
+fn ends_of(accepted: &AcceptedImage, n: u32) -> u32
+    requires { n < slot_count accepted.now }
+    ensures { EndsOf accepted.now n result }
 {
-    if !has_leaf(image, n) {
+    let image = accepted.image();
+    if !image.has_leaf(n) {
         return 0;
     }
-    let first = offset_at(image, n);
-    if offset_at(image, n + 1) <= first {
+    let first = image.offset(n);
+    if image.offset(n + 1) <= first {
         return 0;
     }
-    if code_to(image, n, child_at(image, first)) != 0 {
+    if image.code_to(n, image.child(first)) != 0 {
         return 0;
     }
     1
 }
 
-// Writes the record of the end in the list of slot n, if there is one. The slot's labels are the first `len` of the path. Returns
-// what `put_record` returns.
+// Writes the record of the end in the list of slot n, if there is one. The labels of the key reach the slot.
 fn list_end(
-    image: &[u8],
+    accepted: &AcceptedImage,
     n: u32,
     ends: u32,
-    path: &mut [u32; LENGTH_COUNT],
-    len: usize,
-    room: &mut [u8],
-    at: usize,
-    count: &mut usize,
-) -> usize
-    requires accepted { Accepted image.now }
-    requires n_bound { n < slot_count image.now }
-    requires ends_of { EndsOf image.now n ends }
-    requires put_ready { PutReady len path.old room.old at count.old }
-    ensures count_after { state room.new result count.new ≡ after (state room.old at count.old) (end_pairs image.now n ends (take len path.old)) }
-    ensures kept { Kept len path.old path.new }
+    key: &[u32],
+    records: &mut Records,
+) -> Option<()>
+    requires n_bound { n < slot_count accepted.now }
+    requires ends_of { EndsOf accepted.now n ends }
+    requires key_bound { length key.now ≤ max_labels }
+    ensures state { state_of records.new ≡ after (state_of records.old) (end_pairs accepted.now n ends key.now) }
+    ensures stopped { IfNone result ((state_of records.new).at ≡ 0) }
+    ensures same_room { records.new.room.ghost_name ≡ records.old.room.ghost_name }
 {
     if ends == 0 {
-        return at;
+        return Some(());
     }
-    path[len] = value_number(image, child_at(image, offset_at(image, n)));
-    put_record(path, len, room, at, count)
+    let image = accepted.image();
+    let leaf = image.child(image.offset(n));
+    records.put(key, image.value_number(leaf))
 }
 
-// Writes the records of the pairs below slot n, starting at position `at`, with `left` labels still allowed. The slot's own
-// labels are at the front of the path; the other places of the path are for the labels further down. Returns where the next
-// record goes, or 0 if one had no room.
+// Writes the records of the pairs below slot n, with `left` labels still allowed. The slot's own labels are at the front of the path;
+// the other places of the path are for the labels further down. None if a record had no room.
 pub fn list_below(
-    image: &[u8],
+    accepted: &AcceptedImage,
     left: usize,
     n: u32,
     path: &mut [u32; LENGTH_COUNT],
-    room: &mut [u8],
-    at: usize,
-    count: &mut usize,
-) -> usize
-    requires accepted { Accepted image.now }
-    requires list_ready { ListReady image.now left n path.old room.old at count.old }
-    ensures count_after { state room.new result count.new ≡ after (state room.old at count.old) (list_from image.now left n (take (length_count - left) path.old)) }
+    records: &mut Records,
+) -> Option<()>
+    requires { ListReady accepted.now left n path.old }
+    ensures state { state_of records.new ≡ after (state_of records.old) (list_from accepted.now left n (take (length_count - left) path.old)) }
+    ensures stopped { IfNone result ((state_of records.new).at ≡ 0) }
     ensures kept { Kept (length_count - left) path.old path.new }
+    ensures same_room { records.new.room.ghost_name ≡ records.old.room.ghost_name }
 {
     if left == 0 {
-        return at;
+        return Some(());
     }
     let len = LENGTH_COUNT - left;
-    let base = base_of(image, n);
-    let end = offset_at(image, n + 1);
-    let ends = ends_of(image, n);
-    let mut j = offset_at(image, n) + ends;
-    let mut here = list_end(image, n, ends, path, len, room, at, count);
-    while j < end {
-        if here == 0 {
-            return 0;
-        }
-        let entry = entry_at(image, base, j);
+    let image = accepted.image();
+    let base = image.base(n);
+    let end = image.offset(n + 1);
+    let ends = ends_of(accepted, n);
+    let first = image.offset(n) + ends;
+    list_end(accepted, n, ends, &path[..len], records)?;
+    for j in first..end {
+        let entry = entry_at(&image, base, j);
         path[len] = entry.label;
-        here = list_below(image, left - 1, entry.slot, path, room, here, count);
-        j += 1;
+        list_below(accepted, left - 1, entry.slot, path, records)?;
     }
-    here
+    Some(())
 }
