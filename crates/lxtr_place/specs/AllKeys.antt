@@ -20,9 +20,8 @@ use Rattle.lxtr_build_laws.specs.Groups.{CodesIn}
 use Rattle.lxtr_build_laws.specs.TableCodes.{codes_in, label_is}
 use Rattle.lxtr_build_laws.specs.SlotWords.{zeros_check}
 use Rattle.lxtr_place.specs.declared.groups.Group.{Group}
-use Rattle.lxtr_place.specs.GroupRanges.{place_of, group_from, group_of, Placeable, Lent}
+use Rattle.lxtr_place.specs.GroupRanges.{place_of, group_from, group_of, Placeable, Indexed}
 use Rattle.lxtr_place.specs.Children.{Fresh}
-use Rattle.lxtr_place.specs.Within.{Called}
 use Rattle.lxtr_place.specs.Agreeing.{Agree, place_same}
 
 group_keys : (b : List ℕ) (n i at : ℕ) → group_from b 0 n i at ≡ keys_from b n i at
@@ -39,7 +38,7 @@ module _ (b : List ℕ) (n : ℕ) (e : n ≡ key_count b) where
   unfolding pairs_of
   all_pairs = ap (λ (k : ℕ). group_from b 0 k 0 keys_at) e ∙ group_keys b (key_count b) 0 keys_at
 
-  all_placeable : (labels codes order : List ℕ) → KeysPassed b → CodeTables (pairs_of b) labels codes order → Placeable b labels codes (all n)
+  pub all_placeable : (labels codes order : List ℕ) → KeysPassed b → CodeTables (pairs_of b) labels codes order → Placeable b labels codes (all n)
   all_placeable labels codes order k t = record {
     grouped = record { whole = rw e k.whole; values = omega (arith, k.few); shallow = omega arith };
     ascending = rw all_pairs k.right.ascending;
@@ -107,16 +106,16 @@ module _ (b starts₀ : List ℕ) (k : KeysPassed b) where
 pub starts_enough : (b starts : List ℕ) → KeysPassed b → length starts ≡ max_keys + 1 → key_count b < length starts
 starts_enough b starts k l = omega (arith, k.few)
 
--- the lent table has the start of each key, and the lent room is long enough
-all_lent : (b starts room : List ℕ) (n : ℕ) → KeysPassed b → n ≡ key_count b → StartsPut b starts (key_count b + 1) → length starts ≡ max_keys + 1 → length room ≡ max_keys + length_count → Lent b starts (all n) length_count room
-all_lent b starts room n k e s l m = record { indexed = record { inside = omega (arith, k.few); each = λ i h. ap (λ (m : ℕ). get_or starts m 0) (zero-add i) ∙ s.each i (omega arith) }; long = omega (arith, k.few) }
+-- the lent table has the start of each key
+pub all_indexed : (b starts : List ℕ) (n : ℕ) → KeysPassed b → n ≡ key_count b → StartsPut b starts (key_count b + 1) → length starts ≡ max_keys + 1 → Indexed b starts (all n)
+all_indexed b starts n k e s l = record { inside = omega (arith, k.few); each = λ i h. ap (λ (m : ℕ). get_or starts m 0) (zero-add i) ∙ s.each i (omega arith) }
 
 -- slot 1 of cleared work is fresh
 module _ (w : List ℕ) (clear : Cleared w) where
   check_zero : (t : ℕ) → check_at w t ≡ 0
   check_zero t = rw clear.zeros (zeros_check (length w) t)
 
-  root_fresh : (S : ℕ) → S ≡ slots_in (length w) → Fresh S w 1
+  pub root_fresh : (S : ℕ) → S ≡ slots_in (length w) → Fresh S w 1
   unfolding slots_in
   root_fresh S e = record {
     ready = record {
@@ -129,11 +128,6 @@ module _ (w : List ℕ) (clear : Cleared w) where
     no_child = λ t q. omega (arith, check_zero t);
     parent_taken = λ t h f. omega (arith, check_zero t, f.from);
   }
-
--- so `place` may be called with all keys
-pub all_called : (b starts labels codes order room w : List ℕ) (S n : ℕ) → KeysPassed b → CodeTables (pairs_of b) labels codes order → Cleared w → n ≡ key_count b → S ≡ slots_in (length w) → StartsPut b starts (key_count b + 1) → length starts ≡ max_keys + 1 → length room ≡ max_keys + length_count
-    → Called b starts labels codes order S length_count 1 (all n) w room
-all_called b starts labels codes order room w S n k t clear e slots s l m = record { tables = t; placeable = all_placeable b n e labels codes order k t; fresh = root_fresh w clear S slots; deep = omega arith; lent = all_lent b starts room n k e s l m }
 
 -- what is placed is what the definitions place
 module _ (b labels codes order w : List ℕ) (t : CodeTables (pairs_of b) labels codes order) (clear : Cleared w) where

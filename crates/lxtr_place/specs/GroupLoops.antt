@@ -180,6 +180,24 @@ module _ (b starts : List ℕ) (g : Group) (s : Indexed b starts g) (w : Grouped
   pub start_is : (a : ℕ) → a ≡ get_or starts (g.first + i) 0 → a ≡ place_of b i g.at
   start_is a e = e ∙ s.each i h
 
+-- the low-th key is the first that is not under x
+pub record Skipped (b : List ℕ) (g : Group) (x low : ℕ) : Type 0 where
+  pub to : low ≤ g.count
+  pub rest : below x (group_of b g) ≡ tails (take (run_of x (group_of b (from g (place_of b low g.at) low))) (group_of b (from g (place_of b low g.at) low)))
+
+-- the group from the low-th key up, which starts at place a
+module _ (b : List ℕ) (g : Group) (w : Grouped b g) (low : ℕ) (inside : low ≤ g.count) (a : ℕ) (at_low : a ≡ place_of b low g.at) where
+  pub found_group : Grouped b (from g a low)
+  found_group = record { whole = rw at_low (whole_onward b g.count g.at low inside w.whole); values = omega (arith, w.values, inside); shallow = w.shallow }
+
+  pub found_started : (starts : List ℕ) → Indexed b starts g → Indexed b starts (from g a low)
+  found_started starts s = record {
+    inside = omega (arith, s.inside, inside);
+    each = λ i h.
+        let e : g.first + low + i ≡ g.first + (low + i) = omega arith in
+        ap (λ (k : ℕ). get_or starts k 0) e ∙ s.each (low + i) (omega (arith, inside)) ∙ place_add b low i g.at ∙ ap (place_of b i) (sym at_low);
+  }
+
 module _ (b : List ℕ) (g : Group) (x : ℕ) (w : Grouped b g) where
   pub search_start : Searching b g x 0 g.count
   search_start = record { between = omega arith; to = omega arith; passed = sym (ap (below x) (onward_start b g.depth g.count g.first g.at)); reached = inl refl }
@@ -212,39 +230,27 @@ module _ (b : List ℕ) (g : Group) (x : ℕ) (w : Grouped b g) where
           pub search_high : t ≡ false → Searching b g x low mid
           search_high u = record { between = omega arith; to = omega (arith, r.to); passed = r.passed; reached = inr (sym here ∙ u) }
 
-    -- no key is left: the answer is the group from the low-th key up, which starts at place a
+    -- no key is left
     module _ (stop : high ≤ low) where
-      pub inside : low ≤ g.count
+      inside : low ≤ g.count
       inside = omega (arith, r.between, r.to)
 
-      module _ (a : ℕ) (at_low : a ≡ place_of b low g.at) where
-        pub found_group : Grouped b (from g a low)
-        found_group = record { whole = rw at_low (whole_onward b g.count g.at low inside w.whole); values = omega (arith, w.values, inside); shallow = w.shallow }
+      pub found_below : Ascending (group_of b g) → Skipped b g x low
+      unfolding group_from below tails run_of
+      found_below asc = record { to = inside; rest = r.passed ∙ go (dec_lt low g.count) }
+        where
+          rest : List Pair
+          rest = group_of b (from g (place_of b low g.at) low)
 
-        pub found_started : (starts : List ℕ) → Indexed b starts g → Indexed b starts (from g a low)
-        found_started starts s = record {
-          inside = omega (arith, s.inside, inside);
-          each = λ i h.
-              let e : g.first + low + i ≡ g.first + (low + i) = omega arith in
-              ap (λ (k : ℕ). get_or starts k 0) e ∙ s.each (low + i) (omega (arith, inside)) ∙ place_add b low i g.at ∙ ap (place_of b i) (sym at_low);
-        }
-
-        pub found_below : Ascending (group_of b g) → below x (group_of b g) ≡ tails (take (run_of x (group_of b (from g a low))) (group_of b (from g a low)))
-        unfolding group_from below tails run_of
-        found_below asc = rw at_low (r.passed ∙ go (dec_lt low g.count))
-          where
-            rest : List Pair
-            rest = group_of b (from g (place_of b low g.at) low)
-
-            go : Dec (low < g.count) → below x rest ≡ tails (take (run_of x rest) rest)
-            go (no h) = let e : g.count - low ≡ 0 = omega arith in ap (λ (k : ℕ). below x (group_from b g.depth k (g.first + low) (place_of b low g.at))) e ∙ sym (ap (λ (k : ℕ). let l = group_from b g.depth k (g.first + low) (place_of b low g.at) in tails (take (run_of x l) l)) e)
-            go (yes h) =
-                let same : high ≡ low = omega (arith, r.between) in
-                let not_under : is_under x (drop g.depth (key_at b (place_of b low g.at))) ≡ false = ⊎_elim (λ (e : high ≡ g.count). absurd (omega arith)) (λ u. ap (λ (i : ℕ). is_under x (drop g.depth (key_at b (place_of b i g.at)))) (sym same) ∙ u) r.reached in
-                let e : g.count - low ≡ suc (g.count - low - 1) = omega arith in
-                let cut : rest ≡ (drop g.depth (key_at b (place_of b low g.at)), g.first + low) ∷ group_from b g.depth (g.count - low - 1) (g.first + low + 1) (next_key b (place_of b low g.at)) =
-                ap (λ (k : ℕ). group_from b g.depth k (g.first + low) (place_of b low g.at)) e in
-                rw cut (front_below x _ _ (subst Ascending cut (ascending_onward b g.depth g.count g.first g.at low inside asc)) not_under)
+          go : Dec (low < g.count) → below x rest ≡ tails (take (run_of x rest) rest)
+          go (no h) = let e : g.count - low ≡ 0 = omega arith in ap (λ (k : ℕ). below x (group_from b g.depth k (g.first + low) (place_of b low g.at))) e ∙ sym (ap (λ (k : ℕ). let l = group_from b g.depth k (g.first + low) (place_of b low g.at) in tails (take (run_of x l) l)) e)
+          go (yes h) =
+              let same : high ≡ low = omega (arith, r.between) in
+              let not_under : is_under x (drop g.depth (key_at b (place_of b low g.at))) ≡ false = ⊎_elim (λ (e : high ≡ g.count). absurd (omega arith)) (λ u. ap (λ (i : ℕ). is_under x (drop g.depth (key_at b (place_of b i g.at)))) (sym same) ∙ u) r.reached in
+              let e : g.count - low ≡ suc (g.count - low - 1) = omega arith in
+              let cut : rest ≡ (drop g.depth (key_at b (place_of b low g.at)), g.first + low) ∷ group_from b g.depth (g.count - low - 1) (g.first + low + 1) (next_key b (place_of b low g.at)) =
+              ap (λ (k : ℕ). group_from b g.depth k (g.first + low) (place_of b low g.at)) e in
+              rw cut (front_below x _ _ (subst Ascending cut (ascending_onward b g.depth g.count g.first g.at low inside asc)) not_under)
 
 -- ---- `below`
 

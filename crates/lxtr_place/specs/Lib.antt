@@ -12,3 +12,5 @@ pub mod Within
 -- from the tables to the code map, and all keys
 pub mod Agreeing
 pub mod AllKeys
+pub mod Facts
+pub mod Plans

@@ -89,15 +89,8 @@ module _ {keys starts labels codes order : List ℕ} {S left p : ℕ} {g : Group
 
       -- c is not the code of an end
       module _ (some : c ≢ 0) where
-        small : c ≤ length labels
+        pub small : c ≤ length labels
         small = turn_small s.started going h e
-
-        -- what `child_group` requires
-        pub child_asked : (Grouped keys g × Indexed keys starts g) × (Ascending (group_of keys g) × ((g.depth < length_count) × (((1 ≤ c) × (c ≤ length order)) × (get_or order (c - 1) 0 < length labels))))
-        child_asked =
-            let a = s.called in
-            let from : 1 ≤ c = omega arith in
-            ((a.placeable.grouped, a.lent.indexed), (a.placeable.ascending, (omega (arith, a.deep, s.started.some_left), ((from, order_long _ _ _ _ a.tables _ from small), order_inside _ _ _ _ a.tables _ from small))))
 
         -- its slot is t and its group f
         module _ {t : ℕ} (at : t ≡ slot_under b c) {f : Group} (group : group_of keys f ≡ below (label_by labels order c) (group_of keys g)) where

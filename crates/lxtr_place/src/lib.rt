@@ -2,7 +2,9 @@
 #![tactic(auto)]
 
 mod groups; // the keys that pass a slot
+mod ranges; // the parts of a group
 mod codes; // the codes of a group's children
+mod work; // the lent work, with the map of its free slots
 mod settling; // a slot's own words, its children's, and their slots in the map
 mod placing; // a group and all below it
 
@@ -15,9 +17,10 @@ ghost use Rattle.lxtr_build_laws.specs.CodeTables.{CodeTables};
 ghost use Rattle.lxtr_build_laws.specs.Work.{Cleared, placed_as};
 ghost use Rattle.lxtr_place.specs.AllKeys.{StartsPut};
 
-use crate::groups::Group;
-use crate::placing::place_root;
+use crate::groups::{Group, KeyGroup, Plan};
+use crate::work::Work;
 use lxtr_codes::guesses::Guesses;
+use lxtr_fit::free_map::FreeSlots;
 use lxtr_fit::slots::slots_in;
 use lxtr_keys::{KEYS_AT, key_count, next_key};
 use lxtr_spec::{LENGTH_COUNT, MAX_KEYS};
@@ -42,8 +45,7 @@ fn put_starts(keys: &[u8], starts: &mut [u32])
     starts[count] = at as u32;
 }
 
-// Places all keys, starting at slot 1, with the tables of their code map. Answers nothing if some slot gets no
-// base.
+// Places all keys, starting at slot 1, with the tables of their code map. Answers nothing if some slot gets no base.
 pub fn place_all(
     keys: &[u8],
     labels: &[u32],
@@ -56,19 +58,33 @@ pub fn place_all(
     requires cleared { Cleared work.old }
     ensures { placed_as result work.new ≡ placed_in (length work.old) (pairs_of keys.now) (map_of (pairs_of keys.now)) }
 {
-    let all = Group {
-        at: KEYS_AT,
-        first: 0,
-        count: key_count(keys),
-        depth: 0,
-    };
-    let slots = slots_in(work.len());
     let mut starts = [0u32; MAX_KEYS + 1];
     put_starts(keys, &mut starts);
     let mut guesses = Guesses::new();
     guesses.note_all(labels);
+    let plan = Plan {
+        keys,
+        starts: &starts,
+        labels,
+        codes,
+        order,
+        guesses: &guesses,
+    };
+    let all = KeyGroup {
+        plan: &plan,
+        span: Group {
+            at: KEYS_AT,
+            first: 0,
+            count: key_count(keys),
+            depth: 0,
+        },
+    };
+    let slots = slots_in(work.len());
+    let mut filled = Work {
+        words: work,
+        slots,
+        free: FreeSlots::of_cleared(slots),
+    };
     let mut room = [0u32; ROOM];
-    place_root(
-        keys, &starts, labels, &guesses, codes, order, work, slots, &mut room, all,
-    )
+    filled.place(1, &all, LENGTH_COUNT, &mut room)
 }

@@ -7,9 +7,10 @@ ghost use Rattle.lxtr_spec.specs.Placing;
 ghost use Rattle.lxtr_spec.specs.Placing.{put_parent, put_child, put_children};
 ghost use Rattle.lxtr_build_laws.specs.PlacingSteps.{Ready};
 ghost use Rattle.lxtr_build_laws.specs.SlotLoops.{SlotsBelow, each_step};
-ghost use Rattle.lxtr_fit.specs.FreeMaps.{FreeMap, taken_by};
+ghost use Rattle.lxtr_fit.specs.FreeMaps.{taken_by};
 ghost use Rattle.lxtr_place.specs.SettlingWords.{settled_as};
 
+use crate::work::Work;
 use lxtr_fit::free_map::FreeSlots;
 use lxtr_image::joining::slot_under;
 use lxtr_image::nodes::TOP_BIT;
@@ -56,37 +57,31 @@ fn put_children(work: &mut [u32], p: u32, value: u32, base: u32, codes: &[u32])
 }
 
 // Writes the words of p and of its children under a base, and takes the children's slots in the map.
-fn put_under(work: &mut [u32], free: &mut FreeSlots, p: u32, value: u32, base: u32, codes: &[u32])
-    requires p_in_bounds { 2 * p + 1 < length work.old }
-    requires slots_below { SlotsBelow (length work.old / 2) base codes.now }
+fn put_under(words: &mut [u32], free: &mut FreeSlots, p: u32, value: u32, base: u32, codes: &[u32])
+    requires p_in_bounds { 2 * p + 1 < length words.old }
+    requires slots_below { SlotsBelow (length words.old / 2) base codes.now }
     requires slots_below_2 { SlotsBelow max_slots base codes.now }
     requires value_lt_value_limit { value < value_limit }
-    ensures work_after { work.new ≡ put_children p value base codes.now (put_parent p base codes.now work.old) }
+    ensures words_after { words.new ≡ put_children p value base codes.now (put_parent p base codes.now words.old) }
     ensures free_after { free.new.map ≡ each_step (taken_by base) codes.now free.old.map }
     ensures lowest_unchanged { free.new.lowest ≡ free.old.lowest }
 {
-    put_parent(work, p, base, codes);
-    put_children(work, p, value, base, codes);
+    put_parent(words, p, base, codes);
+    put_children(words, p, value, base, codes);
     free.take_under(base, codes);
 }
 
-// Places the children of p, which have these codes; `value` is the value of the end, if there is one. Returns the base of p, if
-// one fits. The map says which slots of the work are free, before and after.
-pub fn settle(
-    work: &mut [u32],
-    slots: usize,
-    free: &mut FreeSlots,
-    p: u32,
-    value: u32,
-    codes: &[u32],
-) -> Option<u32>
-    requires ready { Ready slots work.old p }
-    requires free_map { FreeMap slots work.old free.old.map free.old.lowest }
-    requires value_lt_value_limit { value < value_limit }
-    ensures work_after { settled_as result work.new ≡ Placing.settle slots p value codes.now work.old }
-    ensures free_map_2 { FreeMap slots work.new free.new.map free.new.lowest }
-{
-    let base = free.first_fit(codes)?;
-    put_under(work, free, p, value, base, codes);
-    Some(base)
+impl Work<'_> {
+    // Places the children of p, which have these codes; `value` is the value of the end, if there is one. Returns the base of p, if
+    // one fits.
+    pub fn settle(&mut self, p: u32, value: u32, codes: &[u32]) -> Option<u32>
+        requires ready { Ready self.old.slots self.old.words.now p }
+        requires value_lt_value_limit { value < value_limit }
+        ensures same_work { (self.new.slots ≡ self.old.slots) × (self.new.words.ghost_name ≡ self.old.words.ghost_name) }
+        ensures words_after { settled_as result self.new.words.now ≡ Placing.settle self.old.slots p value codes.now self.old.words.now }
+    {
+        let base = self.free.first_fit(codes)?;
+        put_under(self.words, &mut self.free, p, value, base, codes);
+        Some(base)
+    }
 }

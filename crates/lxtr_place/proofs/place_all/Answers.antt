@@ -1,13 +1,30 @@
 -- All keys are slot 1's group; for their labels the tables agree with the code map.
-use Rattle.std.proofs.Common.{rules}
+use Rattle.std.proofs.Common.{arith, rules, sym}
 use Rattle.lxtr_spec.specs.Labels.{max_labels}
-use Rattle.lxtr_place.specs.AllKeys.{all_called, all_placed}
+use Rattle.lxtr_spec.specs.Builds.{slots_in}
+use Rattle.lxtr_place.specs.AllKeys.{all_placeable, all_indexed, root_fresh, all_placed}
 use Rattle.lxtr_place.proofs.place_all.Goals as goal
 
-pub place_root-requires-clause-called : goal.place_root-requires-clause-called
+pub of_cleared-requires : goal.of_cleared-requires
+unfolding slots_in
+of_cleared-requires c = omega arith
+
+pub invariant_of-all : goal.invariant_of-all
+invariant_of-all c = record { placeable = all_placeable _ _ c.key_count.ensures _ _ _ c.requires.keys_passed c.requires.code_tables; indexed = all_indexed _ _ _ c.requires.keys_passed c.key_count.ensures c.put_starts.ensures.starts_put c.put_starts.ensures.starts_len_unchanged }
+
+pub place-requires-clause-fresh : goal.place-requires-clause-fresh
+place-requires-clause-fresh c = root_fresh _ c.requires.cleared _ c.slots_in-slots.ensures
+
+pub place-requires-clause-deep : goal.place-requires-clause-deep
 unfolding max_labels
-place_root-requires-clause-called c = search all_called
+place-requires-clause-deep c = omega arith
+
+pub place-requires-clause-long : goal.place-requires-clause-long
+unfolding max_labels
+place-requires-clause-long c = omega (arith, c.requires.keys_passed.few, c.key_count.ensures)
 
 pub returns : goal.returns
 unfolding max_labels
-returns c = search all_placed
+returns c =
+    let done = all_placed _ _ _ _ _ c.requires.code_tables c.requires.cleared _ _ _ c.slots_in-slots.ensures c.key_count.ensures c.place.ensures.words_after in
+    search (rules, done)

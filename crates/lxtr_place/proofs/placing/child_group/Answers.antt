@@ -1,8 +1,0 @@
--- The label at the code's place in the order leads to the child.
-use Rattle.std.proofs.Common.{rules}
-use Rattle.lxtr_build_laws.specs.CodeTables.{label_by}
-use Rattle.lxtr_place.proofs.placing.child_group.Goals as goal
-
-pub returns-clause-result_value : goal.returns-clause-result_value
-unfolding label_by
-returns-clause-result_value c = search rules
