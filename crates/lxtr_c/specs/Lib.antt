@@ -1,5 +1,4 @@
--- Laws of the functions for C: the number that each returns.
+-- What the C functions answer.
 pub mod EntryNumbers
-pub mod PositionNumbers
-pub mod TableNumbers
+pub mod PrefixWords
 pub mod TypingNumbers

@@ -14,7 +14,6 @@ use lxtr_build::build;
 use lxtr_check::check;
 use lxtr_complete::complete;
 use lxtr_entries::{check_table, locate};
-use lxtr_entries_spec::Entries;
 use lxtr_fault::fault;
 use lxtr_highest::highest;
 use lxtr_host::numbers::{
@@ -183,10 +182,13 @@ pub extern "C" fn lxtr_entries(image: &[u8], query: &[u8], table: &[u8], first: 
     ensures { record { number = result; first = first.new } ≡ host_entries_of image.now query.now table.now first.old }
 {
     match locate(image, query, table) {
-        Ok(located) => {
-            let entries = located.unwrap_or(Entries { first: 0, count: 0 });
+        Ok(Some(entries)) => {
             put_first(entries.first, first);
-            host_number(0, false, located.is_some(), entries.count)
+            host_number(0, false, true, entries.count)
+        }
+        Ok(None) => {
+            put_first(0, first);
+            host_number(0, false, false, 0)
         }
         Err(refusal) => host_number(refusal.number(), false, false, 0),
     }
