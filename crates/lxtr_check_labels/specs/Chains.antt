@@ -154,9 +154,6 @@ module _ (b : List ℕ) (i label : ℕ) (own : label ≡ label_at b i) (last bef
       pub look_falls : get_or before (entry - 1) 0 < entry
       look_falls = omega (arith, look_below, c.links (entry - 1) look_below, last_within b (chain_of (label_at b (entry - 1))) (entry - 1))
 
-      pub look_inside : i < label_count b → entry - 1 < label_count b
-      look_inside l = omega (arith, look_below)
-
       -- l is the label of the entry's place
       module _ (l : ℕ) (read : l ≡ label_at b (entry - 1)) where
         pub look_hit : l ≡ label → true ≡ any_below i (same_label b i)

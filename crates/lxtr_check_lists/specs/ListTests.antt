@@ -26,9 +26,6 @@ module _ (f : ℕ → Bool) (m : ℕ) where
     unfolding any_below
     any_next t h e = record { to = omega arith; any = rw (add-one, any_below, ← e, ← s.any) }
 
-    pub any_end : (bound : ℕ) → m ≡ bound → m ≤ i → r ≡ any_below bound f
-    any_end bound same h = let e : i ≡ bound = omega (arith, s.to) in rw e at s.any
-
 -- if no offset falls, entry i of the list of slot p, which is w wide, lies in the children array
 pub entry_place : (b : List ℕ) (p i w : ℕ) → Passed b → any_below (slot_count b) (offset_falls b) ≡ false → p < slot_count b → w ≡ list_width b p → i < w → offset b p + i < child_count b
 entry_place b p i w ok rising slot wide h = omega (arith, ok.last, in_children b ((offsets_right b).0 rising) p (offset b p + i) slot ((in_list b p (offset b p + i)).1 (omega arith)))

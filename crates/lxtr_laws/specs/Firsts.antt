@@ -1,9 +1,9 @@
 -- The first number below a bound that passes a test, or the bound if none does: nothing before it passes.
 -- There is only one such number. The same for the first number from i on, if there is one.
 use Prim.Native.Nat.{ℕ, zero, suc, ◌+◌, ◌≤◌, ◌<◌}
-use Rattle.std.specs.Prelude.{◌≡◌, Bool, ltb, Option, Some, None}
+use Rattle.std.specs.Prelude.{◌≡◌, Bool, Option, Some, None}
 use Rattle.std.proofs.Math.Path.{refl, sym, ap}
-use Rattle.std.proofs.Common.{◌∙◌, true≢false, lt-ltb, le-ltb}
+use Rattle.std.proofs.Common.{◌∙◌, true≢false}
 use Rattle.std.proofs.Math.Bool.{true, false}
 use Rattle.std.proofs.Math.Nat.{le_refl}
 use Rattle.std.proofs.Math.Decide.{ℕ_discrete, dec_lt}
@@ -70,24 +70,6 @@ module _ (f : ℕ → Bool) where
 
     pub first_past_bound : any_below n f ≡ false → n ≡ first_below n f
     first_past_bound e = one_first n (first_below n f) (record { to = le_refl n; here = λ h. absurd (omega arith); none = (any_false n f).0 e }) (first_below_lem n)
-
-    first_tested : ltb (first_below n f) n ≡ any_below n f
-    first_tested = go (dec_lt (first_below n f) n)
-      where
-        go : Dec (first_below n f < n) → ltb (first_below n f) n ≡ any_below n f
-        go (yes h) = lt-ltb (first_below n f) n h ∙ sym (first_some h)
-        go (no h) = le-ltb (first_below n f) n (omega arith) ∙ sym (first_none (omega arith))
-
-    -- as the code has it: r is the first, and m the bound
-    module _ (r m : ℕ) (is : r ≡ first_below n f) (same : m ≡ n) where
-      pub test_first : ltb r m ≡ any_below n f
-      test_first = rw (is, same) first_tested
-
-      pub first_there : r < m → any_below n f ≡ true
-      first_there h = first_some (omega arith)
-
-      pub first_past : m ≤ r → any_below n f ≡ false
-      first_past h = first_none (omega arith)
 
 -- ---- the first from i on, or none
 

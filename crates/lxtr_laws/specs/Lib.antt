@@ -1,7 +1,7 @@
 -- Facts about the definitions of `lxtr_spec`, each stated once. A reader of contracts meets only the three records of Passed,
--- IsSlot of Walking, `over` of Overlays, Accepted and `ancestor` of Facts (inside `lxtr_complete` and `lxtr_check_reach`), for
--- sorted tables Sorted and place_by of OrderedLists, and for the map of free slots SlotMaps, FirstOf of Firsts, and Reordered,
--- is_swap_mask and bit_under of JoinedWords.
+-- IsSlot of Walking, `over` of Overlays, first_in of FirstPlaces, Accepted and `ancestor` of Facts (inside `lxtr_check`,
+-- `lxtr_complete` and `lxtr_check_reach`), for sorted tables Sorted and place_by of OrderedLists, and for the map of free slots
+-- SlotMaps, FirstOf of Firsts, and Reordered, is_swap_mask and bit_under of JoinedWords.
 pub mod Tests
 pub mod RangeTests
 pub mod Firsts

@@ -51,9 +51,6 @@ module _ {b : List ℕ} where
   pub whole_by : (r : Bool) → Sized b → r ≡ length_wrong b → r ≡ false → Whole b
   whole_by r s e f = whole s (outcome r _ _ e f)
 
-  pub passed_by : (r s : Bool) → Whole b → r ≡ map_wrong b → r ≡ false → s ≡ offset_ends_wrong b → s ≡ false → Passed b
-  passed_by r s w e f g h = passed w (outcome r _ _ e f) (outcome s _ _ g h)
-
   pub header_passed : header_refusal b ≡ 0 → Passed b
   unfolding header_refusal too_short
   header_passed e =

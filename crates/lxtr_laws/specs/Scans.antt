@@ -2,10 +2,9 @@
 use Rattle.std.specs.Prelude.{ℕ, ◌+◌, ◌≤◌, ◌<◌, ◌≡◌, Bool, true, false}
 use Rattle.std.proofs.Math.Path.{refl}
 use Rattle.std.proofs.Common.{sym, add-one, arith}
-use Rattle.lxtr_spec.specs.Ranges.{any_below, first_below}
+use Rattle.lxtr_spec.specs.Ranges.{any_below}
 use Rattle.lxtr_laws.specs.Tests.{outcome}
-use Rattle.lxtr_laws.specs.RangeTests.{any_true, any_false}
-use Rattle.lxtr_laws.specs.Firsts.{first_below_lem, one_first}
+use Rattle.lxtr_laws.specs.RangeTests.{any_true}
 
 pub record NoneSoFar (f : ℕ → Bool) (i m : ℕ) : Type 0 where
   pub to : i ≤ m
@@ -28,12 +27,3 @@ module _ (f : ℕ → Bool) (m : ℕ) where
 
       pub scan_end : m ≤ i → false ≡ any_below bound f
       scan_end h = let e : i ≡ bound = omega (arith, s.to) in sym (rw e at s.none)
-
-      -- the same if the answer is the number itself, or the bound if none passes
-      pub scan_first : (r : Bool) → i < m → r ≡ f i → r ≡ true → i ≡ first_below bound f
-      scan_first r h e t = one_first f bound i (first_below bound f) (record { to = omega arith; here = λ _. outcome r _ _ e t; none = (any_false i f).0 s.none }) (first_below_lem f bound)
-
-      pub scan_past : m ≤ i → m ≡ first_below bound f
-      scan_past h =
-          let q : i ≡ m = omega (arith, s.to) in
-          one_first f bound m (first_below bound f) (record { to = omega arith; here = λ l. absurd (omega arith); none = (any_false m f).0 (rw q at s.none) }) (first_below_lem f bound)
