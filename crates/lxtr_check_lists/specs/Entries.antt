@@ -1,8 +1,8 @@
 -- The first wrong entry in all lists.
-use Rattle.std.specs.Prelude.{ℕ, ◌+◌, ◌^◌, ◌<◌, ◌≤◌, ◌≡◌, refl, List, Bool, true, false, Option, Some, None, option_map, is_some}
-use Rattle.std.proofs.Common.{arith, ◌∙◌, sym}
+use Rattle.std.specs.Prelude.{ℕ, ◌+◌, ◌^◌, ◌<◌, ◌≡◌, refl, List, Bool, true, false, Option, Some, None, option_map, is_some}
+use Rattle.std.proofs.Common.{arith, ◌∙◌}
 use Rattle.lxtr_spec.specs.Ranges.{any_below, first_below}
-use Rattle.lxtr_spec.specs.Image.{slot_count, child_count, offset, list_width}
+use Rattle.lxtr_spec.specs.Image.{slot_count, offset, list_width}
 use Rattle.lxtr_spec.specs.Refusals.{offset_falls, entry_wrong_in, entries_wrong}
 use Rattle.lxtr_laws.specs.Passed.{Passed}
 use Rattle.lxtr_laws.specs.Firsts.{some_first}

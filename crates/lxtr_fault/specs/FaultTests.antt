@@ -1,12 +1,12 @@
 -- Where a fault lies, as the code finds it. Results of calls are variables: each law says which definition equals what one return
 -- computes.
-use Rattle.std.specs.Prelude.{ℕ, ◌+◌, ◌<◌, ◌≡◌, ◌≢◌, refl, List, Bool, true, false, not, Option, Some, None, option_map}
+use Rattle.std.specs.Prelude.{ℕ, ◌<◌, ◌≡◌, ◌≢◌, refl, List, Bool, true, false, not, Option, Some, None, option_map}
 use Rattle.std.specs.Option.{unwrap_or}
-use Rattle.std.proofs.Common.{sym, ap, ◌∙◌, arith}
+use Rattle.std.proofs.Common.{sym, arith}
 use borrow.Author.Tests.{eq-eqb, ne_eqb}
-use Rattle.lxtr_spec.specs.Ranges.{any_below, first_below}
+use Rattle.lxtr_spec.specs.Ranges.{any_below}
 use Rattle.lxtr_spec.specs.Image.{slot_count, child_count, parent, list_width, label_count}
-use Rattle.lxtr_spec.specs.Refusals.{refuse_if, header_refusal, label_wrong, labels_wrong, is_used_from2, slot_wrong, slots_wrong, offset_falls, used_count, entries_wrong, childless, lists_wrong, unreachable, some_unreachable, body_refusal, image_refusal}
+use Rattle.lxtr_spec.specs.Refusals.{header_refusal, label_wrong, labels_wrong, is_used_from2, slot_wrong, slots_wrong, offset_falls, used_count, entries_wrong, childless, lists_wrong, unreachable, some_unreachable, body_refusal}
 use Rattle.lxtr_spec.specs.FaultPlaces.{fault_if, label_fault, slot_fault, offset_fault, entry_fault_of, entry_fault, is_entry, unlisted, unlisted_fault, childless_fault, list_fault, reach_fault, fault_by, fault_of}
 use Rattle.lxtr_spec.specs.declared.Fault.{Fault}
 use Rattle.lxtr_spec.specs.declared.Fault.TheVariants.{Label, Slot, Offset, Entry, Unlisted, Childless, RootBase, Unreachable}

@@ -5,7 +5,7 @@ use Rattle.std.specs.Option.{SomeIff}
 use Rattle.std.specs.Result.{IsErrAnd}
 use Rattle.std.proofs.lemmas.Result.{err_from_is_err_and}
 use Rattle.std.proofs.Math.Path.{refl}
-use Rattle.std.proofs.Common.{sym, ap, ◌∙◌, add-one, arith, ltb-true, ltb-false, lt-ltb, le-ltb}
+use Rattle.std.proofs.Common.{sym, ap, add-one, arith, ltb-true, ltb-false}
 use Rattle.lxtr_spec.specs.Image.{slot_count, value_number}
 use Rattle.lxtr_spec.specs.Refusals.{unless_refused, image_refusal, is_end}
 use Rattle.lxtr_spec.specs.HighestValues.{HighestAnswer, larger, highest_below, highest_of}

@@ -1,5 +1,5 @@
 -- Falling offsets are a fault; if no offset falls, the other tests follow.
-use Rattle.std.proofs.Common.{sym, ◌∙◌, ap, refl, ◌≡◌}
+use Rattle.std.proofs.Common.{sym, ◌∙◌, refl, ◌≡◌}
 use Rattle.lxtr_check_lists.specs.ListTests.{lists_fall, lists_tested}
 use Rattle.lxtr_check_lists.specs.Entries.{some_entry}
 use Rattle.lxtr_laws.specs.FirstPlaces.{some_first_in}

@@ -1,5 +1,4 @@
 -- `found` says whether a slot before this one lacks a child that it must have.
-use Rattle.lxtr_spec.specs.Image.{slot_count}
 use Rattle.lxtr_spec.specs.Refusals.{childless}
 use Rattle.lxtr_check_lists.specs.ListTests.{AnySoFar}
 use Rattle.lxtr_check_lists.proofs.some_childless.Given as goal

@@ -1,5 +1,4 @@
 -- `used` counts the used slots from 2 up among those before this one.
-use Rattle.lxtr_spec.specs.Image.{slot_count}
 use Rattle.lxtr_spec.specs.Refusals.{is_used_from2}
 use Rattle.lxtr_laws.specs.Tallies.{CountSoFar}
 use Rattle.lxtr_check_lists.proofs.used_count.Given as goal

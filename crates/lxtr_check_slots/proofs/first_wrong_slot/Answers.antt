@@ -1,5 +1,5 @@
 -- `find` over the range of the slots answers the first of them that is wrong.
-use Rattle.std.proofs.Common.{rules, ◌∙◌, ap}
+use Rattle.std.proofs.Common.{rules}
 use Rattle.std.proofs.Common.{tests}
 use Rattle.lxtr_spec.specs.Refusals.{slot_wrong}
 use Rattle.lxtr_laws.specs.Finds.{found_by}

@@ -1,5 +1,5 @@
 -- The search answers the slot, since there is one.
-use Rattle.std.proofs.Common.{◌≡◌, ◌+◌, ◌≤◌, ◌<◌, ◌∙◌, rules, tests, arith}
+use Rattle.std.proofs.Common.{◌+◌, ◌≤◌, ◌<◌, ◌∙◌, rules, tests}
 use Rattle.std.proofs.lemmas.Iterator.{first_from_Range}
 use Rattle.lxtr_spec.specs.Image.{offset}
 use Rattle.lxtr_draw.specs.EntryLists.{list_found}

@@ -1,6 +1,6 @@
 -- Each turn is one of the laws of `Chains`.
 use Rattle.std.proofs.Common.{arith}
-use Rattle.lxtr_check_labels.specs.Chains.{look_start, look_below, look_hit, look_next, look_falls, look_end}
+use Rattle.lxtr_check_labels.specs.Chains.{look_start, look_hit, look_next, look_falls, look_end}
 use Rattle.lxtr_check_labels.proofs.Chains.has.Goals as goal
 
 pub loop-entry-init : goal.loop-entry-init
