@@ -148,19 +148,19 @@ module _ (t l out₀ : List ℕ) where
     pub writing_end : length l ≤ i → out ≡ over out₀ 5 (key_records (keys_of t l))
     writing_end h = sym (over_none out at) ∙ ap (over out at) (sym (records_end t l i h)) ∙ g.left
 
--- ---- the whole list: version and count turn the output into out₁, and the keys turn that into out₂
+-- ---- the whole list of the keys ks: version and count turn the output into out₁, and the keys turn that into out₂
 
-module _ (t l out : List ℕ) (fits : length (key_list (keys_of t l)) ≤ length out) where
+module _ (ks : List (List ℕ)) (out : List ℕ) (fits : length (key_list ks) ≤ length out) where
   pub head_room : 5 ≤ length out
-  head_room = omega (arith, list_size (keys_of t l))
+  head_room = omega (arith, list_size ks)
 
-  module _ (out₁ : List ℕ) (head : out₁ ≡ over out 0 (1 ∷ be_bytes (length l))) where
-    pub keys_room : 5 + length (key_records (keys_of t l)) ≤ length out₁
+  module _ (n : ℕ) (count : n ≡ length ks) (out₁ : List ℕ) (head : out₁ ≡ over out 0 (1 ∷ be_bytes n)) where
+    pub keys_room : 5 + length (key_records ks) ≤ length out₁
     unfolding be_bytes
-    keys_room = omega (arith, list_size (keys_of t l), ap length head, over_length out 0 (1 ∷ be_bytes (length l)) head_room)
+    keys_room = omega (arith, list_size ks, ap length head, over_length out 0 (1 ∷ be_bytes n) head_room)
 
-    pub list_put : (out₂ : List ℕ) → out₂ ≡ over out₁ 5 (key_records (keys_of t l)) → out₂ ≡ over out 0 (key_list (keys_of t l))
+    pub list_put : (out₂ : List ℕ) → out₂ ≡ over out₁ 5 (key_records ks) → out₂ ≡ over out 0 (key_list ks)
     unfolding key_list be_bytes
     list_put out₂ e =
-        e ∙ rw head (over_over out 0 (1 ∷ be_bytes (length l)) (key_records (keys_of t l)) 5 refl head_room)
-        ∙ ap (λ (n : ℕ). over out 0 (1 ∷ (be_bytes n ++ key_records (keys_of t l)))) (sym (keys_length t l))
+        e ∙ rw head (over_over out 0 (1 ∷ be_bytes n) (key_records ks) 5 refl head_room)
+        ∙ ap (λ (m : ℕ). over out 0 (1 ∷ (be_bytes m ++ key_records ks))) count

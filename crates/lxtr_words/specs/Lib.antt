@@ -8,6 +8,7 @@ pub mod Problems
 pub mod Comparing
 pub mod RisingKeys
 pub mod WordTables
+pub mod Tables
 pub mod WordGathering
 -- The key list of these words, and the answer.
 pub mod KeyWriting

@@ -1,6 +1,6 @@
 -- The answer, put together from the outcomes of its parts.
-use Rattle.std.specs.Prelude.{ℕ, ◌≤◌, ◌<◌, ◌≡◌, refl, List, ◌++◌, Bool, true, false, ltb, length, take, drop, Some, None, Err}
-use Rattle.std.proofs.Common.{sym, ◌∙◌, zero-add, arith, lt-ltb, le-ltb, length-take-le}
+use Rattle.std.specs.Prelude.{ℕ, ◌≤◌, ◌<◌, ◌≡◌, refl, List, ◌++◌, Bool, true, false, ltb, length, drop, Some, None, Err}
+use Rattle.std.proofs.Common.{sym, zero-add, arith, lt-ltb, le-ltb}
 use Rattle.std.proofs.Math.Path.{ap, ap₂}
 use Rattle.lxtr_spec.specs.KeyLists.{max_keys}
 use Rattle.lxtr_spec.specs.Samples.{key_list}
@@ -9,8 +9,7 @@ use Rattle.lxtr_command_spec.specs.WordLists.{lines_of, first_problem, keys_of_t
 use Rattle.lxtr_command_spec.specs.declared.WordProblem.{WordProblem}
 use Rattle.lxtr_command_spec.specs.declared.WordProblem.TheVariants.{ManyWords, NoRoom}
 use Rattle.lxtr_words.specs.Problems.{problem_answer, none_right, found_in}
-use Rattle.lxtr_words.specs.WordTables.{keys_of, LinesRight, keys_length}
-use Rattle.lxtr_words.specs.WordGathering.{Gathered}
+use Rattle.lxtr_words.specs.WordTables.{LinesRight}
 
 -- ---- keys ks and an output
 
@@ -38,35 +37,20 @@ front : (xs out : List ℕ) → over out 0 xs ≡ xs ++ drop (length xs) out
 unfolding over
 front xs out = rw (zero-add (length xs)) refl
 
--- ---- a table of words, whose key list has n bytes
+-- ---- at most so many keys, whose list has n bytes
 
-module _ (t l out : List ℕ) (few : length l ≤ max_keys) (n : ℕ) (size : n ≡ length (key_list (keys_of t l))) where
-  few_keys : length (keys_of t l) ≤ max_keys
-  few_keys = omega (arith, keys_length t l)
-
-  pub list_short : length out < n → record { answer = keyed_in (Err NoRoom); output = out } ≡ keyed (keys_of t l) out
+module _ (ks : List (List ℕ)) (out : List ℕ) (few : length ks ≤ max_keys) (n : ℕ) (size : n ≡ length (key_list ks)) where
+  pub list_short : length out < n → record { answer = keyed_in (Err NoRoom); output = out } ≡ keyed ks out
   unfolding refused_words
-  list_short h = sym (keyed_short (keys_of t l) out few_keys (omega arith))
+  list_short h = sym (keyed_short ks out few (omega arith))
 
-  pub list_room : n ≤ length out → length (key_list (keys_of t l)) ≤ length out
-  list_room h = omega arith
+  pub list_done : (count : ℕ) → count ≡ length ks → (out' : List ℕ) → n ≤ length out → out' ≡ over out 0 (key_list ks)
+      → record { answer = record { problem = 0; line = 0; count = count; length = n }; output = out' } ≡ keyed ks out
+  list_done count c out' h e = rw (e, size, c, front (key_list ks) out) (sym (keyed_fits ks out few (omega arith)))
 
-  pub list_done : (out' : List ℕ) → n ≤ length out → out' ≡ over out 0 (key_list (keys_of t l)) → record { answer = record { problem = 0; line = 0; count = length l; length = n }; output = out' } ≡ keyed (keys_of t l) out
-  list_done out' h e = rw (e, size, ← keys_length t l, front (key_list (keys_of t l)) out) (sym (keyed_fits (keys_of t l) out few_keys (omega arith)))
-
--- ---- the words of the text were gathered into a table
-
-module _ (t a : List ℕ) (n : ℕ) (g : Gathered t a n) (out : List ℕ) where
-  pub words_many : max_keys < n → record { answer = keyed_in (Err ManyWords); output = out } ≡ keyed (keys_of_text t) out
-  unfolding refused_words
-  words_many h = sym (keyed_many (keys_of_text t) out (g.over h))
-
-  module _ (h : n ≤ max_keys) where
-    pub words_few : length (take n a) ≤ max_keys
-    words_few = omega (arith, length-take-le n a (omega (arith, g.size)))
-
-    pub words_listed : (r : KeyedAnswer) → r ≡ keyed (keys_of t (take n a)) out → r ≡ keyed (keys_of_text t) out
-    words_listed r e = e ∙ ap (λ (ks : List (List ℕ)). keyed ks out) (g.all h)
+pub words_many : (t : List ℕ) (out : List ℕ) (e : WordProblem) → (e ≡ ManyWords) × (max_keys < length (keys_of_text t)) → record { answer = keyed_in (Err e); output = out } ≡ keyed (keys_of_text t) out
+unfolding refused_words
+words_many t out e h = rw h.0 (sym (keyed_many (keys_of_text t) out h.1))
 
 -- ---- the first problem of the text was looked for
 

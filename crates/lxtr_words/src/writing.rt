@@ -2,13 +2,16 @@
 // four bytes each, big-endian.
 ghost use Rattle.std.specs.Prelude.{◌≡◌, ◌∷◌, ◌+◌, ◌*◌, ◌^◌, ◌≤◌, ◌<◌, length};
 ghost use Rattle.lxtr_spec.specs.Numbers.{be_words};
-ghost use Rattle.lxtr_spec.specs.KeyLists.{max_keys};
 ghost use Rattle.lxtr_spec.specs.Samples.{key_records, key_list};
 ghost use Rattle.lxtr_laws.specs.Overlays.{over};
-ghost use Rattle.lxtr_words.specs.WordTables.{key_of, keys_of, WordRight, Table};
+ghost use Rattle.lxtr_command_spec.specs.WordLists.{keyed, keyed_in};
+ghost use Rattle.lxtr_words.specs.WordTables.{key_of, WordRight};
+ghost use Rattle.lxtr_words.specs.Tables.{keys_in};
 
 use crate::lines::word_at;
+use crate::table::Words;
 use lxtr_bytes::heads::{HEAD_LENGTH, put_head};
+use lxtr_command_spec::{KeyListSize, WordProblem};
 use lxtr_utf8::{count_labels, decode};
 
 // How many labels the word at `start` has.
@@ -17,19 +20,6 @@ fn label_count(text: &[u8], start: usize) -> usize
     ensures { (result ≡ length (key_of text.now start)) × (result < 2 ^ 8) }
 {
     count_labels(word_at(text, start)).unwrap_or(0)
-}
-
-// The length of the key list in bytes.
-pub fn list_length(text: &[u8], starts: &[usize]) -> usize
-    requires table { Table text.now starts.now }
-    requires starts_len_bound { length starts.now ≤ max_keys }
-    ensures { result ≡ length (key_list (keys_of text.now starts.now)) }
-{
-    let mut total = HEAD_LENGTH;
-    for start in starts {
-        total += 1 + 4 * label_count(text, *start);
-    }
-    total
 }
 
 // Writes the labels of a word at position `at` of the output. Returns how many there are.
@@ -54,25 +44,44 @@ fn put_key(text: &[u8], start: usize, out: &mut [u8], at: usize) -> usize
     at + 1 + 4 * count
 }
 
-// Writes the keys of all words, after the head.
-fn put_keys(text: &[u8], starts: &[usize], out: &mut [u8])
-    requires table { Table text.now starts.now }
-    requires starts_in_bounds { 5 + length (key_records (keys_of text.now starts.now)) ≤ length out.old }
-    ensures { out.new ≡ over out.old 5 (key_records (keys_of text.now starts.now)) }
-{
-    let mut at = HEAD_LENGTH;
-    for start in starts {
-        at = put_key(text, *start, out, at);
+impl<'t> Words<'t> {
+    // The length of the key list in bytes.
+    fn list_length(&self) -> usize
+        ensures { result ≡ length (key_list (keys_in self.now)) }
+    {
+        let text = self.text;
+        let starts = self.starts();
+        let mut total = HEAD_LENGTH;
+        for start in starts {
+            total += 1 + 4 * label_count(text, *start);
+        }
+        total
     }
-}
 
-// Writes the key list to the front of the output.
-pub fn put_list(text: &[u8], starts: &[usize], out: &mut [u8])
-    requires table { Table text.now starts.now }
-    requires starts_len_bound { length starts.now ≤ max_keys }
-    requires starts_in_bounds { length (key_list (keys_of text.now starts.now)) ≤ length out.old }
-    ensures { out.new ≡ over out.old 0 (key_list (keys_of text.now starts.now)) }
-{
-    put_head(out, 0, starts.len() as u32);
-    put_keys(text, starts, out);
+    // Writes the keys of all words, after the head.
+    fn put_keys(&self, out: &mut [u8])
+        requires { 5 + length (key_records (keys_in self.now)) ≤ length out.old }
+        ensures { out.new ≡ over out.old 5 (key_records (keys_in self.now)) }
+    {
+        let text = self.text;
+        let starts = self.starts();
+        let mut at = HEAD_LENGTH;
+        for start in starts {
+            at = put_key(text, *start, out, at);
+        }
+    }
+
+    // Writes the key list to the front of the output, if it fits.
+    pub fn put_list(&self, out: &mut [u8]) -> Result<KeyListSize, WordProblem>
+        ensures { record { answer = keyed_in result; output = out.new } ≡ keyed (keys_in self.now) out.old }
+    {
+        let count = self.starts().len();
+        let length = self.list_length();
+        if out.len() < length {
+            return Err(WordProblem::NoRoom);
+        }
+        put_head(out, 0, count as u32);
+        self.put_keys(out);
+        Ok(KeyListSize { count, length })
+    }
 }
