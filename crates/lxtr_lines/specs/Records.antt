@@ -59,10 +59,6 @@ module _ (b : List ℕ) (at : ℕ) where
   unfolding record_end next_key
   next_record e = let w = whole_record e in (w.key.starts, omega arith)
 
-  pub whole_end : is_whole_record b at ≡ true → record_end b at ≤ length b
-  unfolding record_end
-  whole_end e = (whole_record e).ends
-
 -- what a record holds
 module _ (b : List ℕ) (at : ℕ) (whole : is_whole_record b at ≡ true) where
   pub record_starts : at < length b

@@ -1,10 +1,10 @@
 -- Bytes appended to what is in a line, as far as the line goes. Appending them one after the other is the same as all at once.
-use Rattle.std.specs.Prelude.{ℕ, ◌+◌, ◌-◌, ◌≤◌, ◌<◌, ◌≡◌, refl, List, [], ◌∷◌, ◌++◌, length, take, set}
-use Rattle.std.proofs.Common.{arith, sym, ap, ◌∙◌, append-nil, append_assoc, length-take, length-append, length-set, take_all, length-take-le}
+use Rattle.std.specs.Prelude.{ℕ, ◌+◌, ◌-◌, ◌≤◌, ◌≡◌, List, [], ◌++◌, length, take}
+use Rattle.std.proofs.Common.{arith, sym, ap, ◌∙◌, append-nil, take_all, length-take-le}
 use Rattle.std.proofs.Math.Decide.{dec_le}
 use Rattle.std.proofs.lemmas.List.{take-append-le}
 use Rattle.std.proofs.Math.Seq.{take-append-add}
-use Rattle.lxtr_laws.specs.Overlays.{over, over_length, over_none, over_set, over_over}
+use Rattle.lxtr_laws.specs.Overlays.{over, over_none}
 
 -- as many of the bytes xs as fit into the line, starting at place `at`
 abbrev pub front : List ℕ → ℕ → List ℕ → List ℕ

@@ -1,5 +1,5 @@
 -- Forms: what is still to come of one, with the numbers that are left.
-use Rattle.std.specs.Prelude.{ℕ, suc, ◌+◌, ◌≤◌, ◌<◌, ◌≡◌, refl, List, [], ◌∷◌, ◌++◌, cond, length, drop, get_or}
+use Rattle.std.specs.Prelude.{ℕ, ◌+◌, ◌≤◌, ◌<◌, ◌≡◌, refl, List, [], ◌++◌, cond, length, drop, get_or}
 use Rattle.std.proofs.Common.{arith, sym, ap, ◌∙◌, add-one, drop-cons, drop_of_length-le}
 use Rattle.lxtr_command_spec.specs.Forms.{piece, takes, filled}
 use Rattle.lxtr_text.specs.Writing.{wrote, wrote_none, wrote_next}

@@ -1,7 +1,7 @@
 -- What is written on a line: as much of a text as fits, after what is there. Writing two texts, one after the other, is writing both at
 -- once.
-use Rattle.std.specs.Prelude.{ℕ, suc, ◌+◌, ◌-◌, ◌≤◌, ◌<◌, ◌≡◌, refl, List, [], ◌∷◌, ◌++◌, length, take, drop, set, get_or}
-use Rattle.std.proofs.Common.{arith, sym, ap, ◌∙◌, append-nil, length-take, length-append, length-set, take_all, add-one, drop-cons, drop_of_length-le}
+use Rattle.std.specs.Prelude.{ℕ, suc, ◌+◌, ◌-◌, ◌≤◌, ◌<◌, ◌≡◌, refl, List, [], ◌∷◌, ◌++◌, length, drop, set, get_or}
+use Rattle.std.proofs.Common.{arith, sym, ap, ◌∙◌, length-take, length-append, take_all, add-one, drop-cons, drop_of_length-le}
 use Rattle.std.proofs.Math.Decide.{dec_le}
 use Rattle.lxtr_laws.specs.Overlays.{over, over_length, over_none, over_set, over_over}
 use Rattle.lxtr_text.specs.Appends.{front, front_append, Appended, within_cut}

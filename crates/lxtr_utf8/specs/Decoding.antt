@@ -26,9 +26,6 @@ or_empty (Some xs) = xs
 unfoldable pub labels_in : List ℕ → List ℕ
 labels_in t = or_empty (labels_of_text t)
 
-abbrev pub IsText : List ℕ → Type 0
-IsText t = labels_of_text t ≡ Some (labels_in t)
-
 -- ---- the library's text
 
 same_scalar : (x : ℕ) → is_scalar x ≡ scalar x

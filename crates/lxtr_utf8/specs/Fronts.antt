@@ -62,14 +62,6 @@ module _ (t : List ℕ) (a : ℕ) (first : a ≡ byte_at t 0) where
   unfolding front_number
   number_one h = rw (sym first, lt-ltb a 0x80 h)
 
-  pub number_none : 0x80 ≤ a → a < 0xC0 → 0x110000 ≡ front_number t
-  unfolding front_number
-  number_none l h = rw (sym first, le-ltb a 0x80 l, lt-ltb a 0xC0 h)
-
-  pub number_high : 0xF8 ≤ a → 0x110000 ≡ front_number t
-  unfolding front_number
-  number_high l = rw (sym first, le-ltb a 0x80 (omega arith), le-ltb a 0xC0 (omega arith), le-ltb a 0xE0 (omega arith), le-ltb a 0xF0 (omega arith), le-ltb a 0xF8 l)
-
   module _ (b : ℕ) (second : b ≡ byte_at t 1) where
     pub number_two : 0xC0 ≤ a → a < 0xE0 → a % 32 * 64 + b % 64 ≡ front_number t
     unfolding front_number

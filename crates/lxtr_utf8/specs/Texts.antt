@@ -2,7 +2,7 @@
 use Prim.Native.Nat.{ℕ, zero, suc, ◌-◌, ◌≤◌, ◌<◌}
 use native.Mathlib.Omega.{arith}
 use Rattle.std.proofs.Math.Decide.{dec_lt}
-use Rattle.std.proofs.Common.{le_refl, sym, ◌∙◌, ne_eqb, eqb-true, length-append}
+use Rattle.std.proofs.Common.{le_refl, sym, ◌∙◌, ne_eqb, eqb-true}
 use Rattle.std.specs.Prelude.{◌≡◌, List, [], ◌∷◌, ◌++◌, Bool, eqb, Option, Some, None}
 use Rattle.std.proofs.Math.Path.{refl, ap}
 use Rattle.std.proofs.Math.Bool.{true, false}
@@ -21,9 +21,6 @@ begins_split t [] e = refl
 begins_split [] (y ∷ ys) e = absurd (false≢true e)
 begins_split (x ∷ t) (y ∷ ys) e =
     let (s, r) = (and_is_true (eqb x y) (begins_with t ys)).0 e in ap (λ (l : List ℕ). x ∷ l) (begins_split t ys r) ∙ ap (λ (z : ℕ). z ∷ (ys ++ drop (length ys) t)) (eqb-true x y s)
-
-pub begins_length : (t ys : List ℕ) → begins_with t ys ≡ true → length ys ≤ length t
-begins_length t ys e = omega (arith, ap length (begins_split t ys e), length-append ys (drop (length ys) t))
 
 -- a character has at least one byte
 pub some_bytes : (x : ℕ) → 1 ≤ length (utf8 x)
