@@ -3,7 +3,7 @@ use Rattle.std.specs.Prelude.{ℕ, ◌+◌, ◌*◌, ◌-◌, ◌≤◌, ◌<◌
 use native.Mathlib.Omega.{arith}
 use Rattle.std.proofs.Math.Path.{refl, sym, ap}
 use Rattle.std.proofs.Common.{◌∙◌}
-use borrow.Author.Tests.{not-false, lt-ltb, le-ltb, lt-leb, le-leb}
+use borrow.Author.Tests.{not-false}
 use Rattle.std.proofs.Math.ListN.{get_or, length-drop}
 use Rattle.std.proofs.Math.Seq.{length-take-le, get_or-take, get_or-drop, ext_get_or}
 use Rattle.std.specs.Prelude.{Option, MatchOption}
@@ -40,20 +40,6 @@ module _ (b : List ℕ) (at : ℕ) where
   -- a test that was passed
   pub is_whole : (r : Bool) → r ≡ is_whole_record b at → not r ≡ false → is_whole_record b at ≡ true
   is_whole r e h = sym e ∙ not-false r h
-
-  -- what the tests say, one after the other
-  pub starts_past : length b ≤ at → false ≡ is_whole_record b at
-  unfolding is_whole_record
-  starts_past h = rw (le-ltb at (length b) h) refl
-
-  module _ (starts : at < length b) (len : ℕ) (is : len ≡ key_length b at) where
-    pub key_long : max_labels < len → false ≡ is_whole_record b at
-    unfolding is_whole_record
-    key_long h = rw (lt-ltb at (length b) starts, lt-leb (key_length b at) max_labels (omega arith)) refl
-
-    pub ends_within : (next : ℕ) → len ≤ max_labels → next ≡ next_key b at → leb (next + 4) (length b) ≡ is_whole_record b at
-    unfolding is_whole_record record_end
-    ends_within next h e = rw (lt-ltb at (length b) starts, le-leb (key_length b at) max_labels (omega arith), e) refl
 
   pub next_record : is_whole_record b at ≡ true → (at < length b) × (at < record_end b at)
   unfolding record_end next_key

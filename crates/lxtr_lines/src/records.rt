@@ -53,6 +53,7 @@ impl<'a> Iterator for Records<'a> {
 }
 
 // Whether the record at `at` lies wholly in the listing, and its key has no more labels than a key may have.
+#[tactic(auto, unfolding(crate::specs::Records::is_whole_record, crate::specs::Records::record_end, lxtr_spec::specs::KeyLists::next_key, lxtr_spec::specs::Labels::max_labels), using(std::proofs::lemmas::Bool::Decides::nat_tests))]
 pub fn is_whole_record(listing: &[u8], at: usize) -> bool
     ensures { result ≡ is_whole_record listing.now at }
 {

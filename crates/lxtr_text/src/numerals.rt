@@ -12,6 +12,7 @@ const DECIMAL_DIGITS: usize = 10;
 const HEXADECIMAL_DIGITS: usize = 8;
 
 // The digit of value d: 0 to 9, then A to F.
+#[tactic(auto, unfolding(lxtr_spec::specs::Lines::digit_of))]
 fn digit_of(d: u32) -> u8
     requires { d < 16 }
     ensures { result ≡ digit_of d }
