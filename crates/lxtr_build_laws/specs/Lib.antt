@@ -38,3 +38,5 @@ pub mod ListTotals
 -- the steps of a build, and what its answer says
 pub mod Outcomes
 pub mod BuiltAnswers
+-- facts that the types of the code keep
+pub mod OneProof

@@ -2,6 +2,7 @@
 // places in code order.
 #![tactic(auto)]
 
+pub mod tables; // the three tables of a key list, for lxtr_place and lxtr_write
 mod labels; // the labels
 mod counts; // how often each occurs
 pub mod guesses; // a label looked up by a guess, also for lxtr_place

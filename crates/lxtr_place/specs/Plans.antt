@@ -8,11 +8,11 @@ use Rattle.lxtr_place.specs.GroupRanges.{group_of}
 
 -- the code of a label, and the label of a code, by the tables of a plan
 abbrev pub code_in : Plan → ℕ → ℕ
-code_in p = code_by p.labels.now p.codes.now
+code_in p = code_by p.tables.now.labels.now p.tables.now.codes.now
 
 abbrev pub label_in : Plan → ℕ → ℕ
-label_in p = label_by p.labels.now p.order.now
+label_in p = label_by p.tables.now.labels.now p.tables.now.order.now
 
 -- what is left of its keys, with their value numbers
 abbrev pub pairs_in : KeyGroup → List Pair
-pairs_in g = group_of g.plan.now.keys.now g.span
+pairs_in g = group_of g.plan.now.tables.now.keys.now g.span

@@ -1,21 +1,16 @@
 // Groups of keys: the keys that pass a slot. They are next to each other in the key list, because it ascends.
-ghost use Rattle.lxtr_spec.specs.KeyLists.{pairs_of};
-ghost use Rattle.lxtr_build_laws.specs.CodeTables.{CodeTables};
 ghost use Rattle.lxtr_place.specs.GroupRanges.{Indexed, Placeable};
-ghost use Rattle.lxtr_place.specs.Facts.{CodeTables-prop, Indexed-prop, Placeable-prop};
+ghost use Rattle.lxtr_place.specs.Facts.{Indexed-prop, Placeable-prop};
 
 use lxtr_codes::guesses::Guesses;
+use lxtr_codes::tables::Tables;
 
-// What placing reads: the key list, where each key starts, and the tables of the code map, with guesses of the labels' places.
+// What placing reads: the key list with the tables of its code map, where each key starts, and guesses of the labels' places.
 #[derive(Clone, Copy)]
 pub struct Plan<'a> {
-    pub keys: &'a [u8],
+    pub tables: &'a Tables<'a>,
     pub starts: &'a [u32],
-    pub labels: &'a [u32],
-    pub codes: &'a [u32],
-    pub order: &'a [u32],
     pub guesses: &'a Guesses,
-    ghost tables: { CodeTables (pairs_of keys.now) labels.now codes.now order.now } by { CodeTables-prop (pairs_of keys.now) labels.now codes.now order.now },
 }
 
 // `count` keys. The first starts at position `at` and has value number `first`. Their first `depth` labels lead to the slot.
@@ -32,6 +27,6 @@ pub struct Group {
 pub struct KeyGroup<'a> {
     pub plan: &'a Plan<'a>,
     pub span: Group,
-    ghost placeable: { Placeable plan.now.keys.now plan.now.labels.now plan.now.codes.now span } by { Placeable-prop plan.now.keys.now plan.now.labels.now plan.now.codes.now span },
-    ghost indexed: { Indexed plan.now.keys.now plan.now.starts.now span } by { Indexed-prop plan.now.keys.now plan.now.starts.now span },
+    ghost placeable: { Placeable plan.now.tables.now.keys.now plan.now.tables.now.labels.now plan.now.tables.now.codes.now span } by { Placeable-prop plan.now.tables.now.keys.now plan.now.tables.now.labels.now plan.now.tables.now.codes.now span },
+    ghost indexed: { Indexed plan.now.tables.now.keys.now plan.now.starts.now span } by { Indexed-prop plan.now.tables.now.keys.now plan.now.starts.now span },
 }

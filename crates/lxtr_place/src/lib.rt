@@ -13,13 +13,13 @@ ghost use Rattle.lxtr_spec.specs.KeyLists.{key_count, pairs_of};
 ghost use Rattle.lxtr_spec.specs.CodeMaps.{map_of};
 ghost use Rattle.lxtr_spec.specs.Builds.{placed_in};
 ghost use Rattle.lxtr_build_laws.specs.KeyListFacts.{KeysPassed};
-ghost use Rattle.lxtr_build_laws.specs.CodeTables.{CodeTables};
 ghost use Rattle.lxtr_build_laws.specs.Work.{Cleared, placed_as};
 ghost use Rattle.lxtr_place.specs.AllKeys.{StartsPut};
 
 use crate::groups::{Group, KeyGroup, Plan};
 use crate::work::Work;
 use lxtr_codes::guesses::Guesses;
+use lxtr_codes::tables::Tables;
 use lxtr_fit::free_map::FreeSlots;
 use lxtr_fit::slots::slots_in;
 use lxtr_keys::{KEYS_AT, key_count, next_key};
@@ -46,28 +46,17 @@ fn put_starts(keys: &[u8], starts: &mut [u32])
 }
 
 // Places all keys, starting at slot 1, with the tables of their code map. Answers nothing if some slot gets no base.
-pub fn place_all(
-    keys: &[u8],
-    labels: &[u32],
-    codes: &[u32],
-    order: &[u32],
-    work: &mut [u32],
-) -> Option<()>
-    requires keys_passed { KeysPassed keys.now }
-    requires code_tables { CodeTables (pairs_of keys.now) labels.now codes.now order.now }
-    requires cleared { Cleared work.old }
-    ensures { placed_as result work.new ≡ placed_in (length work.old) (pairs_of keys.now) (map_of (pairs_of keys.now)) }
+pub fn place_all(tables: &Tables, work: &mut [u32]) -> Option<()>
+    requires { Cleared work.old }
+    ensures { placed_as result work.new ≡ placed_in (length work.old) (pairs_of tables.now.keys.now) (map_of (pairs_of tables.now.keys.now)) }
 {
     let mut starts = [0u32; MAX_KEYS + 1];
-    put_starts(keys, &mut starts);
+    put_starts(tables.keys, &mut starts);
     let mut guesses = Guesses::new();
-    guesses.note_all(labels);
+    guesses.note_all(tables.labels);
     let plan = Plan {
-        keys,
+        tables,
         starts: &starts,
-        labels,
-        codes,
-        order,
         guesses: &guesses,
     };
     let all = KeyGroup {
@@ -75,7 +64,7 @@ pub fn place_all(
         span: Group {
             at: KEYS_AT,
             first: 0,
-            count: key_count(keys),
+            count: key_count(tables.keys),
             depth: 0,
         },
     };

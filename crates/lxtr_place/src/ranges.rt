@@ -53,21 +53,26 @@ impl<'a> KeyGroup<'a> {
     // Where key i starts. For i = count this is where the last key ends.
     fn start_of(&self, i: usize) -> usize
         requires { i ≤ self.now.span.count }
-        ensures { result ≡ place_of self.now.plan.now.keys.now i self.now.span.at }
+        ensures { result ≡ place_of self.now.plan.now.tables.now.keys.now i self.now.span.at }
     {
         self.plan.starts[self.span.first + i] as usize
     }
 
     // How many keys at the front are under x.
     fn skip_to(&self, x: u32) -> usize
-        ensures { Skipped self.now.plan.now.keys.now self.now.span x result }
+        ensures { Skipped self.now.plan.now.tables.now.keys.now self.now.span x result }
     {
         let mut low: usize = 0;
         let mut high = self.span.count;
         // A binary search of its own: `partition_point` asks of its test that it may be called at any position.
         while low < high {
             let mid = low + (high - low) / 2;
-            if is_under(self.plan.keys, self.start_of(mid), self.span.depth, x) {
+            if is_under(
+                self.plan.tables.keys,
+                self.start_of(mid),
+                self.span.depth,
+                x,
+            ) {
                 low = mid + 1;
             } else {
                 high = mid;
@@ -90,7 +95,7 @@ impl<'a> KeyGroup<'a> {
             count: self.span.count - skipped,
             depth: self.span.depth,
         };
-        let count = run_of(self.plan.keys, from, x);
+        let count = run_of(self.plan.tables.keys, from, x);
         KeyGroup {
             plan: self.plan,
             span: Group {
@@ -105,12 +110,12 @@ impl<'a> KeyGroup<'a> {
     // The group of the child by a code from 1 up. The tables give the label of the code.
     pub fn child(&self, code: u32) -> KeyGroup<'a>
         requires depth_in_bounds { self.now.span.depth < length_count }
-        requires code_in_bounds { (1 ≤ code) × (code ≤ length self.now.plan.now.labels.now) }
+        requires code_in_bounds { (1 ≤ code) × (code ≤ length self.now.plan.now.tables.now.labels.now) }
         ensures plan_value { result.plan.now ≡ self.now.plan.now }
         ensures depth_value { result.span.depth ≡ self.now.span.depth + 1 }
         ensures pairs_value { pairs_in result ≡ Placing.below (label_in self.now.plan.now code) (pairs_in self.now) }
     {
-        self.below(self.plan.labels[self.plan.order[code as usize - 1] as usize])
+        self.below(self.plan.tables.labels[self.plan.tables.order[code as usize - 1] as usize])
     }
 
     // The value number of the key that ends at the slot, or 0 if there is none. Only the first key of a group can end there.
@@ -121,7 +126,7 @@ impl<'a> KeyGroup<'a> {
         if self.span.count == 0 {
             return 0;
         }
-        if self.span.depth < key_length(self.plan.keys, self.span.at) {
+        if self.span.depth < key_length(self.plan.tables.keys, self.span.at) {
             return 0;
         }
         self.span.first as u32
