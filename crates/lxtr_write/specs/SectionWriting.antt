@@ -9,13 +9,13 @@ use Rattle.std.specs.Int.{w64}
 use borrow.Author.Rules.{Fits-under}
 use Rattle.lxtr_spec.specs.Ranges.{count_below}
 use Rattle.lxtr_spec.specs.Numbers.{le_bytes, be_bytes, le_words, be_words}
-use Rattle.lxtr_spec.specs.Labels.{max_listed}
+use Rattle.lxtr_spec.specs.Labels.{max_listed, Pair}
 use Rattle.lxtr_spec.specs.Image.{magic, header_length, nodes_at}
 use Rattle.lxtr_spec.specs.Placing.{is_taken_from2}
 use Rattle.lxtr_spec.specs.Builds.{header_bytes, map_bytes, image_bytes, image_in, children_in, offsets_from, slots_used, slots_in}
 use Rattle.lxtr_laws.specs.ByteOrders.{little, big, words_size}
 use Rattle.lxtr_laws.specs.Overlays.{over, over_over, WordsIn, words_next, words_end}
-use Rattle.lxtr_build_laws.specs.CodeTables.{picked}
+use Rattle.lxtr_build_laws.specs.CodeTables.{picked, CodeTables}
 use Rattle.lxtr_build_laws.specs.TableCodes.{picked_length, picked_at}
 use Rattle.lxtr_build_laws.specs.ChildLists.{offsets_length}
 use Rattle.lxtr_build_laws.specs.UsedSlots.{used_low, used_high, taken_few}
@@ -26,6 +26,10 @@ pub record MapOrder (labels order : List ℕ) : Type 0 where
   pub few : length labels ≤ max_listed
   pub size : length order ≡ length labels
   pub inside : (i : ℕ) → i < length order → get_or order i 0 < length labels
+
+-- the tables of a code map are such
+pub ordered : {ps : List Pair} {labels codes order : List ℕ} → CodeTables ps labels codes order → MapOrder labels order
+ordered t = record { few = t.few; size = t.order_size; inside = t.order_in }
 
 -- E is the number of children of N slots, where codes go up to L; it is at most N
 pub record Counted (w : List ℕ) (N E L : ℕ) : Type 0 where

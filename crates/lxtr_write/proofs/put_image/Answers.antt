@@ -12,8 +12,8 @@ slots_used-slots-requires-clause-le_slots c = search slots_enough
 pub taken_count-children-requires : goal.taken_count-children-requires
 taken_count-children-requires c = search slots_of_image
 
-pub put_fitting-requires-clause-slots : goal.put_fitting-requires-clause-slots
-put_fitting-requires-clause-slots c = search slots_of_image
+pub invariant_of-filled : goal.invariant_of-filled
+invariant_of-filled c = record { room = search slots_of_image }
 
 pub put_fitting-requires-clause-counted : goal.put_fitting-requires-clause-counted
 put_fitting-requires-clause-counted c = search children_counted

@@ -5,4 +5,4 @@ use Rattle.lxtr_build_laws.specs.CodeTables.{picked}
 use Rattle.lxtr_write.proofs.put_labels.Given as goal
 
 abbrev pub invariant-loop-j : goal.invariant-loop-j
-invariant-loop-j l = WordsIn be_words l.fn.out (picked l.labels l.order) l.at l.j l.out
+invariant-loop-j l = WordsIn be_words l.fn.out (picked l.tables.labels.now l.tables.order.now) l.at l.j l.out
