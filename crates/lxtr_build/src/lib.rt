@@ -3,14 +3,13 @@
 
 ghost use Rattle.std.specs.Prelude.{◌≡◌, length, replicate};
 ghost use Rattle.lxtr_spec.specs.Answers.{refusal_of, answer_or};
-ghost use Rattle.lxtr_spec.specs.KeyLists.{pairs_of};
 ghost use Rattle.lxtr_spec.specs.Builds.{from_keys, build_of};
 ghost use Rattle.lxtr_build_laws.specs.KeyListFacts.{KeysPassed};
-ghost use Rattle.lxtr_build_laws.specs.CodeTables.{CodeTables};
 ghost use Rattle.lxtr_build_laws.specs.Work.{Cleared};
 ghost use Rattle.lxtr_write.specs.WriteOutcomes.{Answers};
 ghost use Rattle.lxtr_build.specs.BuildReturns.{labels_outcome, placed_outcome};
 
+use lxtr_codes::tables::Tables;
 use lxtr_codes::{TABLE_SIZE, code_map};
 use lxtr_keys::list_refusal;
 use lxtr_place::place_all;
@@ -28,21 +27,12 @@ fn clear(work: &mut [u32])
 }
 
 // Builds from keys whose code map is known: places them, and writes the image.
-fn build_mapped(
-    keys: &[u8],
-    labels: &[u32],
-    codes: &[u32],
-    order: &[u32],
-    work: &mut [u32],
-    out: &mut [u8],
-) -> Result<u32, Refusal>
-    requires keys_passed { KeysPassed keys.now }
-    requires code_tables { CodeTables (pairs_of keys.now) labels.now codes.now order.now }
-    requires cleared { Cleared work.old }
-    ensures { Answers (placed_outcome keys.now work.old out.old) out.old result out.new }
+fn build_mapped(tables: &Tables, work: &mut [u32], out: &mut [u8]) -> Result<u32, Refusal>
+    requires { Cleared work.old }
+    ensures { Answers (placed_outcome tables.now.keys.now work.old out.old) out.old result out.new }
 {
-    place_all(keys, labels, codes, order, work).ok_or(Refusal::TooFewSlots)?;
-    put_image(out, work, labels, order)
+    place_all(tables, work).ok_or(Refusal::TooFewSlots)?;
+    put_image(out, work, tables)
 }
 
 // Builds from keys that are not refused. The tables have room for one label more than a code map may list.
@@ -55,14 +45,13 @@ fn build_keys(keys: &[u8], work: &mut [u32], out: &mut [u8]) -> Result<u32, Refu
     let mut codes = [0u32; TABLE_SIZE];
     let mut order = [0u32; TABLE_SIZE];
     let count = code_map(keys, &mut labels, &mut codes, &mut order)?;
-    build_mapped(
+    let tables = Tables {
         keys,
-        &labels[..count],
-        &codes[..count],
-        &order[..count],
-        work,
-        out,
-    )
+        labels: &labels[..count],
+        codes: &codes[..count],
+        order: &order[..count],
+    };
+    build_mapped(&tables, work, out)
 }
 
 // Builds with work that is all zero, and leaves the work as placing filled it.
