@@ -11,7 +11,7 @@ use borrow.Author.Tests.{lt-ltb, le-ltb, le-leb, lt-leb, eq-eqb, ne_eqb}
 use Rattle.std.proofs.Math.Dec.{ltb}
 use Rattle.lxtr_spec.specs.Ranges.{any_below}
 use Rattle.lxtr_spec.specs.Numbers.{byte_at}
-use Rattle.lxtr_spec.specs.Labels.{max_labels, comes_before}
+use Rattle.lxtr_spec.specs.Labels.{is_scalar, max_labels, comes_before}
 use Rattle.lxtr_spec.specs.Refusals.{refuse_if, first_refusal}
 use Rattle.lxtr_spec.specs.KeyLists.{list_version, key_count, keys_at, max_keys, key_length, key_label, next_key, key_at, no_scalar_at, not_above, key_refusal, keys_refusal, list_refusal}
 use Rattle.lxtr_laws.specs.Tests.{outcome}
@@ -21,62 +21,64 @@ use Rattle.lxtr_build_laws.specs.KeyListFacts.{WholeKey}
 use Rattle.lxtr_build_laws.specs.KeyReading.{key_ends, key_goes}
 use Rattle.lxtr_build_laws.specs.Passing.{KeyPassed, key_passed}
 
--- the key before key i, if i is not 0, lies wholly in the list
-pub record WholeBefore (b : List ℕ) (i before : ℕ) : Type 0 where
-  pub since : i ≢ 0 → WholeKey b before
+-- ---- the order of two keys of m and n labels, of two lists, the first j of which are the same: what comes after these decides
 
--- ---- the order of two keys of m and n labels, the first j of which are the same: what comes after these decides
-
-pub record Comparing (b : List ℕ) (before at m j : ℕ) : Type 0 where
+pub record Comparing (b b' : List ℕ) (before at m j : ℕ) : Type 0 where
   pub to : j ≤ m
-  pub rest : comes_before (key_at b before) (key_at b at) ≡ comes_before (drop j (key_at b before)) (drop j (key_at b at))
+  pub rest : comes_before (key_at b before) (key_at b' at) ≡ comes_before (drop j (key_at b before)) (drop j (key_at b' at))
 
-module _ (b : List ℕ) (before at m n : ℕ) where
-  pub compare_start : Comparing b before at m 0
+module _ (b b' : List ℕ) (before at m n : ℕ) where
+  pub compare_start : Comparing b b' before at m 0
   compare_start = record { to = omega arith; rest = refl }
 
-  module _ (j : ℕ) (so_far : Comparing b before at m j) (size-before : m ≡ key_length b before) (size-at : n ≡ key_length b at) where
+  module _ (j : ℕ) (so_far : Comparing b b' before at m j) (size-before : m ≡ key_length b before) (size-at : n ≡ key_length b' at) where
     -- the first key has no more labels: it is a prefix of the other, and comes before it if that one is longer
-    pub compare_end : m ≤ j → ltb m n ≡ comes_before (key_at b before) (key_at b at)
+    pub compare_end : m ≤ j → ltb m n ≡ comes_before (key_at b before) (key_at b' at)
     unfolding comes_before
     compare_end h = sym (so_far.rest ∙ rw (key_ends b before j (omega arith)) (longer (dec_lt m n)))
       where
-        longer : Dec (m < n) → comes_before [] (drop j (key_at b at)) ≡ ltb m n
-        longer (yes l) = rw (key_goes b at j (omega (arith, so_far.to)), lt-ltb m n l) refl
-        longer (no l) = rw (key_ends b at j (omega arith), le-ltb m n (omega arith)) refl
+        longer : Dec (m < n) → comes_before [] (drop j (key_at b' at)) ≡ ltb m n
+        longer (yes l) = rw (key_goes b' at j (omega (arith, so_far.to)), lt-ltb m n l) refl
+        longer (no l) = rw (key_ends b' at j (omega arith), le-ltb m n (omega arith)) refl
 
     module _ (h : j < m) where
-      pub compare_past : n ≤ j → false ≡ comes_before (key_at b before) (key_at b at)
+      pub compare_past : n ≤ j → false ≡ comes_before (key_at b before) (key_at b' at)
       unfolding comes_before
-      compare_past l = sym (so_far.rest ∙ rw (key_goes b before j (omega arith), key_ends b at j (omega arith)) refl)
+      compare_past l = sym (so_far.rest ∙ rw (key_goes b before j (omega arith), key_ends b' at j (omega arith)) refl)
 
-      module _ (x y : ℕ) (l : j < n) (is_x : x ≡ key_label b before j) (is_y : y ≡ key_label b at j) where
-        both_go : comes_before (key_at b before) (key_at b at) ≡ comes_before (x ∷ drop (j + 1) (key_at b before)) (y ∷ drop (j + 1) (key_at b at))
-        both_go = so_far.rest ∙ rw (key_goes b before j (omega arith), key_goes b at j (omega arith), is_x, is_y) refl
+      module _ (x y : ℕ) (l : j < n) (is_x : x ≡ key_label b before j) (is_y : y ≡ key_label b' at j) where
+        both_go : comes_before (key_at b before) (key_at b' at) ≡ comes_before (x ∷ drop (j + 1) (key_at b before)) (y ∷ drop (j + 1) (key_at b' at))
+        both_go = so_far.rest ∙ rw (key_goes b before j (omega arith), key_goes b' at j (omega arith), is_x, is_y) refl
 
-        pub compare_differ : x ≢ y → ltb x y ≡ comes_before (key_at b before) (key_at b at)
+        pub compare_differ : x ≢ y → ltb x y ≡ comes_before (key_at b before) (key_at b' at)
         unfolding comes_before
         compare_differ d = sym (both_go ∙ rw (comes_before, ne_eqb x y d, or-false) refl)
 
-        pub compare_next : x ≡ y → Comparing b before at m (j + 1)
+        pub compare_next : x ≡ y → Comparing b b' before at m (j + 1)
         unfolding comes_before
         compare_next e = record { to = omega arith; rest = both_go ∙ rw (comes_before, le-ltb x y (omega arith), eq-eqb x y e) refl }
 
 -- ---- one key
 
+-- s is whether label j, which is x, is a scalar value
+pub not_scalar : (b : List ℕ) (at j x : ℕ) (s : Bool) → s ≡ is_scalar x → x ≡ key_label b at j → not s ≡ no_scalar_at b at j
+unfolding no_scalar_at
+not_scalar b at j x s e q = ap not (e ∙ ap is_scalar q)
+
+-- a key is refused by what is before it, and not by how many keys are
+pub later_alike : (b : List ℕ) (i i' before at : ℕ) → ltb 0 i ≡ ltb 0 i' → key_refusal b i before at ≡ key_refusal b i' before at
+unfolding key_refusal not_above
+later_alike b i i' before at e = rw (key_refusal, not_above, e) refl
+
+pub first_above : (b : List ℕ) (before at : ℕ) → false ≡ not_above b 0 before at
+unfolding not_above
+first_above b before at = refl
+
+pub later_above : (b : List ℕ) (before at : ℕ) (t : Bool) → t ≡ comes_before (key_at b before) (key_at b at) → not t ≡ not_above b 1 before at
+unfolding not_above
+later_above b before at t e = rw (not_above, e) refl
+
 module _ (b : List ℕ) (i before at : ℕ) where
-  pub first_above : i ≡ 0 → false ≡ not_above b i before at
-  unfolding not_above
-  first_above h = rw (not_above, h) refl
-
-  module _ (later : i ≢ 0) where
-    pub before_whole : WholeBefore b i before → WholeKey b before
-    before_whole w = w.since later
-
-    pub later_above : (t : Bool) → t ≡ comes_before (key_at b before) (key_at b at) → not t ≡ not_above b i before at
-    unfolding not_above
-    later_above t e = rw (not_above, lt-ltb 0 i (omega arith), e) refl
-
   pub no_length : length b ≤ at → 15 ≡ key_refusal b i before at
   unfolding key_refusal
   no_length h = refused _ _ _ (le-leb (length b) at h)
@@ -116,11 +118,10 @@ module _ (b : List ℕ) (i before at : ℕ) where
 
 pub record RestDecides (b : List ℕ) (n i before at : ℕ) : Type 0 where
   pub to : i ≤ n
-  pub behind : WholeBefore b i before
   pub rest : keys_refusal b n 0 0 keys_at ≡ keys_refusal b (n - i) i before at
 
 pub keys_start : (b : List ℕ) (n : ℕ) → RestDecides b n 0 0 keys_at
-keys_start b n = record { to = omega arith; behind = record { since = λ z. absurd (z refl) }; rest = rw sub-zero refl }
+keys_start b n = record { to = omega arith; rest = rw sub-zero refl }
 
 module _ (b : List ℕ) (n i before at : ℕ) (g : RestDecides b n i before at) where
   module _ (r : ℕ) (h : i < n) (is : r ≡ key_refusal b i before at) where
@@ -142,7 +143,6 @@ module _ (b : List ℕ) (n i before at : ℕ) (g : RestDecides b n i before at) 
       unfolding first_refusal
       keys_next at' e = rw e (record {
         to = omega arith;
-        behind = record { since = λ z. passed.whole };
         rest = one_more_lem ∙ rw (← is, none) refl;
       })
 

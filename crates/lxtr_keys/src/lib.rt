@@ -2,6 +2,8 @@
 // then per key a length byte and its labels, four bytes each, big-endian. A key is given by the position of its length byte.
 #![tactic(auto)]
 
+pub mod key; // one key
+pub mod list; // a list that is not refused
 mod refusals; // 15 and 17 to 19, key by key
 
 ghost use Rattle.std.specs.Prelude.{◌≡◌, ◌+◌, ◌*◌, ◌≤◌, ◌<◌, length};

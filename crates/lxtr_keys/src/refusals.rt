@@ -1,56 +1,42 @@
 // Refusals 15 and 17 to 19, key by key: a key that is cut short, is too long, has a label that is not a scalar value, or is not
 // above the key before it.
-ghost use Rattle.std.specs.Prelude.{◌≡◌, ◌≤◌, ◌<◌, length};
+ghost use Rattle.std.specs.Prelude.{◌≡◌, ◌≤◌, length, IfSome, IfOk};
 ghost use Rattle.lxtr_spec.specs.Ranges.{any_below};
 ghost use Rattle.lxtr_spec.specs.Answers.{refusal_of};
 ghost use Rattle.lxtr_spec.specs.Labels.{comes_before};
-ghost use Rattle.lxtr_spec.specs.KeyLists.{keys_at, key_length, key_at, no_scalar_at, not_above, key_refusal, keys_refusal};
-ghost use Rattle.lxtr_build_laws.specs.KeyListFacts.{WholeKey};
-ghost use Rattle.lxtr_keys.specs.KeyRefusals.{WholeBefore};
+ghost use Rattle.lxtr_spec.specs.KeyLists.{keys_at, key_length, no_scalar_at, not_above, key_refusal, keys_refusal};
+ghost use Rattle.lxtr_keys.specs.Keys.{labels_in, later, place_before};
 
-use crate::{KEYS_AT, key_label, key_length, next_key};
+use crate::key::Key;
+use crate::{KEYS_AT, key_length, next_key};
 use lxtr_bytes::labels::is_scalar;
 use lxtr_spec::MAX_LABELS;
 use lxtr_spec::refusals::Refusal;
 
-// Whether label j of the key at `at` is not a scalar value.
-#[tactic(auto, unfolding(lxtr_spec::specs::KeyLists::no_scalar_at))]
-fn no_scalar_at(keys: &[u8], at: usize, j: usize) -> bool
-    requires whole_key { WholeKey keys.now at }
-    requires j_bound { j < key_length keys.now at }
-    ensures { result ≡ no_scalar_at keys.now at j }
+// Whether some label of a key is not a scalar value.
+fn some_no_scalar(key: &Key) -> bool
+    ensures { result ≡ any_below (key_length key.now.keys.now key.now.at) (no_scalar_at key.now.keys.now key.now.at) }
 {
-    !is_scalar(key_label(keys, at, j))
-}
-
-// Whether some label of the key at `at` is not a scalar value.
-fn some_no_scalar(keys: &[u8], at: usize) -> bool
-    requires { WholeKey keys.now at }
-    ensures { result ≡ any_below (key_length keys.now at) (no_scalar_at keys.now at) }
-{
-    let len = key_length(keys, at);
-    for j in 0..len {
-        if no_scalar_at(keys, at, j) {
+    for j in 0..key.len() {
+        if !is_scalar(key.label(j)) {
             return true;
         }
     }
     false
 }
 
-// Whether the key at `before` comes before the key at `at`: label by label as numbers, a proper prefix first.
-fn comes_before(keys: &[u8], before: usize, at: usize) -> bool
-    requires whole_key { WholeKey keys.now before }
-    requires whole_key_2 { WholeKey keys.now at }
-    ensures { result ≡ comes_before (key_at keys.now before) (key_at keys.now at) }
+// Whether a key comes before another: label by label as numbers, a proper prefix first.
+fn comes_before(before: &Key, key: &Key) -> bool
+    ensures { result ≡ comes_before (labels_in before.now) (labels_in key.now) }
 {
-    let m = key_length(keys, before);
-    let n = key_length(keys, at);
+    let m = before.len();
+    let n = key.len();
     for same in 0..m {
         if n <= same {
             return false;
         }
-        let x = key_label(keys, before, same);
-        let y = key_label(keys, at, same);
+        let x = before.label(same);
+        let y = key.label(same);
         if x != y {
             return x < y;
         }
@@ -58,22 +44,22 @@ fn comes_before(keys: &[u8], before: usize, at: usize) -> bool
     m < n
 }
 
-// Whether key i, at `at`, is not above the key before it, at `before`. There is none before key 0.
-fn not_above(keys: &[u8], i: usize, before: usize, at: usize) -> bool
-    requires whole_before { WholeBefore keys.now i before }
-    requires whole_key { WholeKey keys.now at }
-    ensures { result ≡ not_above keys.now i before at }
+// Whether a key is not above the key before it. There is none before the first key.
+fn not_above(before: Option<Key>, key: &Key) -> bool
+    requires { IfSome before (λ k. k.keys.now ≡ key.now.keys.now) }
+    ensures { result ≡ not_above key.now.keys.now (later before.entry) (place_before before.entry) key.now.at }
 {
-    if i == 0 {
-        return false;
+    match before {
+        None => false,
+        Some(before) => !comes_before(&before, key),
     }
-    !comes_before(keys, before, at)
 }
 
-// The first of refusals 15 and 17 to 19 that holds of key i.
-fn key_refusal(keys: &[u8], i: usize, before: usize, at: usize) -> Result<(), Refusal>
-    requires { WholeBefore keys.now i before }
-    ensures { refusal_of result ≡ key_refusal keys.now i before at }
+// The key at `at`, or the first of refusals 15 and 17 to 19 that holds of it.
+fn read_key<'a>(keys: &'a [u8], before: Option<Key<'a>>, at: usize) -> Result<Key<'a>, Refusal>
+    requires { IfSome before (λ k. k.keys.now ≡ keys.now) }
+    ensures refusal { refusal_of result ≡ key_refusal keys.now (later before.entry) (place_before before.entry) at }
+    ensures value { IfOk result (λ k. (k.keys.now ≡ keys.now) × (k.at ≡ at)) }
 {
     if keys.len() <= at {
         return Err(Refusal::ListMalformed);
@@ -84,13 +70,14 @@ fn key_refusal(keys: &[u8], i: usize, before: usize, at: usize) -> Result<(), Re
     if keys.len() < next_key(keys, at) {
         return Err(Refusal::ListMalformed);
     }
-    if some_no_scalar(keys, at) {
+    let key = Key { keys, at };
+    if some_no_scalar(&key) {
         return Err(Refusal::NotScalar);
     }
-    if not_above(keys, i, before, at) {
+    if not_above(before, &key) {
         return Err(Refusal::KeysNotAscending);
     }
-    Ok(())
+    Ok(key)
 }
 
 // The first of these that holds of the `count` keys, then 15 for bytes left over.
@@ -98,12 +85,12 @@ pub fn keys_refusal(keys: &[u8], count: usize) -> Result<(), Refusal>
     requires { keys_at ≤ length keys.now }
     ensures { refusal_of result ≡ keys_refusal keys.now count 0 0 keys_at }
 {
-    let mut before: usize = 0;
+    let mut before = None;
     let mut at: usize = KEYS_AT;
-    for i in 0..count {
-        key_refusal(keys, i, before, at)?;
-        before = at;
-        at = next_key(keys, at);
+    for _i in 0..count {
+        let key = read_key(keys, before, at)?;
+        at = key.next();
+        before = Some(key);
     }
     if at < keys.len() {
         return Err(Refusal::ListMalformed);

@@ -1,16 +1,9 @@
 -- The laws of `KeyRefusals`: what decides at the first labels that differ, or where a key ends.
-use Rattle.lxtr_build_laws.specs.KeyReading.{label_inside}
 use Rattle.lxtr_keys.specs.KeyRefusals.{compare_end, compare_past, compare_differ, compare_next}
 use Rattle.lxtr_keys.proofs.refusals.comes_before.Goals as goal
 
 pub returns-then-n-same : goal.returns-then-n-same
 returns-then-n-same c = search compare_past
-
-pub key_label-x-requires : goal.key_label-x-requires
-key_label-x-requires c = search label_inside
-
-pub key_label-y-requires : goal.key_label-y-requires
-key_label-y-requires c = search label_inside
 
 pub returns-then-x-y : goal.returns-then-x-y
 returns-then-x-y c = search compare_differ

@@ -1,12 +1,10 @@
--- Key 0 has no key before it; every later key is compared with the one before it.
-use Rattle.lxtr_keys.specs.KeyRefusals.{first_above, before_whole, later_above}
+use Rattle.lxtr_keys.specs.KeyRefusals.{first_above, later_above}
 use Rattle.lxtr_keys.proofs.refusals.not_above.Goals as goal
 
-pub returns-then-i-eq0 : goal.returns-then-i-eq0
-returns-then-i-eq0 c = search first_above
+pub returns-in-None : goal.returns-in-None
+returns-in-None c = rw c.in-None.is (first_above _ _ _)
 
-pub comes_before-requires-clause-whole_key : goal.comes_before-requires-clause-whole_key
-comes_before-requires-clause-whole_key c = search before_whole
-
-pub returns : goal.returns
-returns c = search later_above
+pub returns-in-Some : goal.returns-in-Some
+returns-in-Some c =
+    let same = rw c.in-Some.is at c.requires in
+    rw c.in-Some.is (later_above _ _ _ _ (rw same at c.comes_before.ensures))
