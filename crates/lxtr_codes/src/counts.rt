@@ -1,13 +1,15 @@
 // The frequency of each label: how often it occurs in all keys together.
 ghost use Rattle.std.specs.Prelude.{◌≡◌, [], ◌+◌, ◌^◌, ◌≤◌, ◌<◌, length, get_or, replicate};
-ghost use Rattle.lxtr_spec.specs.KeyLists.{key_at, pairs_of};
+ghost use Rattle.lxtr_spec.specs.KeyLists.{pairs_of};
 ghost use Rattle.lxtr_spec.specs.CodeMaps.{labels_used};
-ghost use Rattle.lxtr_build_laws.specs.KeyListFacts.{WholeKey, KeysPassed};
 ghost use Rattle.lxtr_build_laws.specs.CodeTables.{Rising, place_in};
+ghost use Rattle.lxtr_keys.specs.Keys.{labels_in};
 ghost use Rattle.lxtr_codes.specs.LabelCounting.{Countable, count_one, KeyCounted, Counted};
 
 use crate::guesses::{Guesses, find_guessed};
-use lxtr_keys::{KEYS_AT, key_count, key_label, key_length, next_key};
+use lxtr_keys::KEYS_AT;
+use lxtr_keys::key::Key;
+use lxtr_keys::list::KeyList;
 
 // Adds one to the count of a label.
 fn count_label(labels: &[u32], guesses: &Guesses, counts: &mut [u32], label: u32)
@@ -20,33 +22,35 @@ fn count_label(labels: &[u32], guesses: &Guesses, counts: &mut [u32], label: u32
     counts[i] += 1;
 }
 
-// Adds each label of the key at `at` to the counts, as often as it occurs there.
-fn count_key(keys: &[u8], at: usize, labels: &[u32], guesses: &Guesses, counts: &mut [u32])
-    requires whole_key { WholeKey keys.now at }
+// Adds each label of a key to the counts, as often as it occurs there.
+fn count_key(key: &Key, labels: &[u32], guesses: &Guesses, counts: &mut [u32])
     requires rising { Rising labels.now }
-    requires countable { Countable (key_at keys.now at) labels.now counts.old }
-    ensures { KeyCounted (key_at keys.now at) labels.now counts.old counts.new }
+    requires countable { Countable (labels_in key.now) labels.now counts.old }
+    ensures { KeyCounted (labels_in key.now) labels.now counts.old counts.new }
 {
-    let len = key_length(keys, at);
+    let len = key.len();
     for j in 0..len {
-        let label = key_label(keys, at, j);
+        let label = key.label(j);
         count_label(labels, guesses, counts, label);
     }
 }
 
 // Counts the frequency of each label, starting from counts that are all zero.
-pub fn count_keys(keys: &[u8], labels: &[u32], guesses: &Guesses, counts: &mut [u32])
-    requires keys_passed { KeysPassed keys.now }
-    requires labels_value { labels.now ≡ labels_used (pairs_of keys.now) [] }
+pub fn count_keys(keys: &KeyList, labels: &[u32], guesses: &Guesses, counts: &mut [u32])
+    requires labels_value { labels.now ≡ labels_used (pairs_of keys.now.bytes.now) [] }
     requires labels_in_bounds { length labels.now ≤ length counts.old }
     requires counts_value { counts.old ≡ replicate (length counts.old) 0 }
     ensures counts_len_unchanged { length counts.new ≡ length counts.old }
-    ensures counted { Counted (pairs_of keys.now) labels.now counts.new }
+    ensures counted { Counted (pairs_of keys.now.bytes.now) labels.now counts.new }
 {
-    let count = key_count(keys);
+    let count = keys.count();
     let mut at: usize = KEYS_AT;
     for _i in 0..count {
-        count_key(keys, at, labels, guesses, counts);
-        at = next_key(keys, at);
+        let key = Key {
+            keys: keys.bytes,
+            at,
+        };
+        count_key(&key, labels, guesses, counts);
+        at = key.next();
     }
 }

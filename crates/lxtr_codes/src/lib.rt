@@ -13,7 +13,6 @@ ghost use Rattle.std.specs.Prelude.{◌≡◌, [], ◌≤◌, length};
 ghost use Rattle.lxtr_spec.specs.Labels.{max_listed};
 ghost use Rattle.lxtr_spec.specs.KeyLists.{pairs_of};
 ghost use Rattle.lxtr_spec.specs.CodeMaps.{labels_used};
-ghost use Rattle.lxtr_build_laws.specs.KeyListFacts.{KeysPassed};
 ghost use Rattle.lxtr_build_laws.specs.CodeTables.{table_size, MappedOr};
 ghost use Rattle.lxtr_codes.specs.Mapping.{CodedFront};
 
@@ -21,6 +20,7 @@ use crate::counts::count_keys;
 use crate::guesses::Guesses;
 use crate::labels::gather_labels;
 use crate::ranks::{assign, rank};
+use lxtr_keys::list::KeyList;
 use lxtr_spec::MAX_LISTED;
 use lxtr_spec::refusals::Refusal;
 
@@ -29,16 +29,15 @@ pub const TABLE_SIZE: usize = MAX_LISTED + 1;
 
 // Writes the codes of the labels, and their order, by descending frequency.
 fn code_labels(
-    keys: &[u8],
+    keys: &KeyList,
     labels: &[u32],
     guesses: &mut Guesses,
     codes: &mut [u32],
     order: &mut [u32],
 )
-    requires keys_passed { KeysPassed keys.now }
-    requires labels_value { labels.now ≡ labels_used (pairs_of keys.now) [] }
+    requires labels_value { labels.now ≡ labels_used (pairs_of keys.now.bytes.now) [] }
     requires labels_len_bound { (length labels.now ≤ max_listed) × (length codes.old ≡ table_size) × (length order.old ≡ table_size) }
-    ensures { CodedFront (pairs_of keys.now) labels.now codes.new order.new }
+    ensures { CodedFront (pairs_of keys.now.bytes.now) labels.now codes.new order.new }
 {
     let n = labels.len();
     let mut counts = [0u32; TABLE_SIZE];
@@ -50,14 +49,13 @@ fn code_labels(
 
 // Fills the tables. Returns the number of labels, which is the number of places filled.
 pub fn code_map(
-    keys: &[u8],
+    keys: &KeyList,
     labels: &mut [u32],
     codes: &mut [u32],
     order: &mut [u32],
 ) -> Result<usize, Refusal>
-    requires keys_passed { KeysPassed keys.now }
-    requires labels_len { (length labels.old ≡ table_size) × (length codes.old ≡ table_size) × (length order.old ≡ table_size) }
-    ensures { MappedOr (pairs_of keys.now) labels.new codes.new order.new result }
+    requires { (length labels.old ≡ table_size) × (length codes.old ≡ table_size) × (length order.old ≡ table_size) }
+    ensures { MappedOr (pairs_of keys.now.bytes.now) labels.new codes.new order.new result }
 {
     let mut guesses = Guesses::new();
     let n = gather_labels(keys, labels, &mut guesses)?;

@@ -1,9 +1,5 @@
-use Rattle.lxtr_build_laws.specs.KeyReading.{label_inside}
 use Rattle.lxtr_codes.specs.LabelCounting.{key_inside, key_small, key_next, key_end}
 use Rattle.lxtr_codes.proofs.counts.count_key.Goals as goal
-
-pub key_label-label-requires : goal.key_label-label-requires
-key_label-label-requires c = search label_inside
 
 pub count_label-requires-clause-label_in_bounds : goal.count_label-requires-clause-label_in_bounds
 count_label-requires-clause-label_in_bounds c = search key_inside
