@@ -169,8 +169,8 @@ fn some_childless(image: &Image) -> bool
 fn root_wrong(image: &Image) -> bool
     ensures { result ≡ root_wrong image.now }
 {
-    let _ = image.slot_count(); // there is a slot 1
-    (image.list_width(1) == 0) & (image.base(1) != 0)
+    let root = image.root();
+    (image.list_width(root) == 0) & (image.base(root) != 0)
 }
 
 pub fn lists_wrong(slots: &Slots) -> bool
