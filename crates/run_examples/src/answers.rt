@@ -2,7 +2,7 @@
 // one that found nothing.
 use crate::output::{Word, print_bytes, print_number, say, say_number, say_refusal};
 use crate::rooms::{
-    FILLING_BYTE, FILLING_WORD, LISTING_ROOM, OUTPUT_ROOM, WORK_WORDS, is_left, words_are,
+    FILLING_BYTE, FILLING_WORD, LISTING_ROOM, OUTPUT_ROOM, WORK_WORDS, front, is_left, words_are,
 };
 use lxtr_search::matches::Prefixes;
 use lxtr_spec::refusals::{Numbered, Refusal};
@@ -156,7 +156,7 @@ fn say_built(
     say_number(Word::Length, length as u64);
     say(work_word(work, words));
     say(rest_word(out, length));
-    print_bytes(out.get(..length.min(PRINTED)).unwrap_or(out));
+    print_bytes(front(out, length.min(PRINTED)));
 }
 
 fn work_word(work: &[u32; WORK_WORDS], words: usize) -> Word {

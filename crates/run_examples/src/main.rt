@@ -8,7 +8,7 @@ mod answers; // the commands that ask
 
 use crate::answers::{build, check, complete, header, longest, lookup, prefixes};
 use crate::output::{Word, say};
-use crate::rooms::SCRIPT_ROOM;
+use crate::rooms::{SCRIPT_ROOM, front};
 use example_lines::{Command, ROOM, Request, read_request};
 use lxtr_output::{STANDARD_INPUT, print};
 use lxtr_text::Line;
@@ -53,7 +53,7 @@ fn run_request(request: Request, image: &mut [u8; ROOM], size: usize, bytes: &[u
             write_at(image, 0, bytes);
             return request.first.min(size);
         }
-        _ => answer(request, image.get(..size).unwrap_or(image), bytes),
+        _ => answer(request, front(image, size), bytes),
     }
     size
 }
@@ -61,7 +61,7 @@ fn run_request(request: Request, image: &mut [u8; ROOM], size: usize, bytes: &[u
 fn run_line(line: &[u8], image: &mut [u8; ROOM], size: usize, bytes: &mut [u8; ROOM]) -> usize {
     match read_request(line, bytes) {
         Some(request) => {
-            let given = bytes.get(..request.size).unwrap_or(bytes);
+            let given = front(bytes, request.size);
             run_request(request, image, size, given)
         }
         None => {
@@ -94,11 +94,7 @@ fn lend(script: &mut [u8; SCRIPT_ROOM]) {
     let length = io::read_full(STANDARD_INPUT, script);
     let mut image = [0u8; ROOM];
     let mut bytes = [0u8; ROOM];
-    run_script(
-        script.get(..length).unwrap_or(script),
-        &mut image,
-        &mut bytes,
-    );
+    run_script(front(script, length), &mut image, &mut bytes);
 }
 
 fn main() {

@@ -26,3 +26,8 @@ pub fn words_are(work: &[u32; WORK_WORDS], count: usize, word: u32) -> bool {
         .enumerate()
         .all(|(i, x)| (*x == word) == (i < count))
 }
+
+// The first `size` bytes; all of them if there are not so many.
+pub fn front(bytes: &[u8], size: usize) -> &[u8] {
+    bytes.get(..size).unwrap_or(bytes)
+}
