@@ -1,18 +1,18 @@
 // Writes the labels of a key, as text and in hexadecimal. They are given as bytes, four to a label.
-ghost use Rattle.std.specs.Prelude.{◌≡◌, ◌∷◌, length, drop};
+ghost use Rattle.std.specs.Prelude.{◌≡◌, ◌∷◌};
 ghost use Rattle.lxtr_spec.specs.Labels.{labels_of};
 ghost use Rattle.lxtr_spec.specs.Lines.{space, hexadecimal, labels_text};
 ghost use Rattle.lxtr_command_spec.specs.Forms.{shown_all, spaced, key_text};
 ghost use Rattle.lxtr_text.specs.Writing.{wrote};
 
-use lxtr_bytes::labels::{label_at, label_count};
+use lxtr_bytes::labels::Labels;
 use lxtr_text::Line;
 
 pub fn append_text(line: &mut Line<'_>, labels: &[u8])
     ensures { line.new ≡ wrote line.old (shown_all (labels_of labels.now)) }
 {
-    for i in 0..label_count(labels) {
-        line.shown(label_at(labels, i));
+    for label in Labels::of(labels) {
+        line.shown(label);
     }
 }
 
@@ -25,12 +25,12 @@ fn append_label(line: &mut Line<'_>, x: u32)
     line.hexadecimal(x);
 }
 
-// Writes the labels in hexadecimal, starting at label `from`, with a space before each.
-pub fn append_labels(line: &mut Line<'_>, labels: &[u8], from: usize)
-    ensures { line.new ≡ wrote line.old (labels_text (drop from (labels_of labels.now))) }
+// Writes labels in hexadecimal, with a space before each.
+pub fn append_labels(line: &mut Line<'_>, labels: Labels<'_>)
+    ensures { line.new ≡ wrote line.old (labels_text labels.entry) }
 {
-    for i in from..label_count(labels) {
-        append_label(line, label_at(labels, i));
+    for label in labels {
+        append_label(line, label);
     }
 }
 
@@ -38,11 +38,11 @@ pub fn append_labels(line: &mut Line<'_>, labels: &[u8], from: usize)
 pub fn append_spaced(line: &mut Line<'_>, labels: &[u8])
     ensures { line.new ≡ wrote line.old (spaced (labels_of labels.now)) }
 {
-    if label_count(labels) == 0 {
-        return;
+    let mut left = Labels::of(labels);
+    if let Some(first) = left.next() {
+        line.hexadecimal(first);
+        append_labels(line, left);
     }
-    line.hexadecimal(label_at(labels, 0));
-    append_labels(line, labels, 1);
 }
 
 // Writes the text and the labels of a key, and ends the line.

@@ -14,6 +14,7 @@ ghost use Rattle.lxtr_text.specs.Writing.{wrote};
 
 use crate::keys::{append_key, append_labels};
 use crate::records::append_record;
+use lxtr_bytes::labels::Labels;
 use lxtr_text::Line;
 pub use records::{Record, Records, is_whole_record};
 
@@ -45,7 +46,7 @@ pub fn pair_line(record: Record<'_>, line: &mut [u8]) -> usize
 {
     let mut out = Line::new(line);
     out.decimal(record.value);
-    append_labels(&mut out, record.labels, 0);
+    append_labels(&mut out, Labels::of(record.labels));
     out.push(b'\n');
     out.len()
 }

@@ -112,3 +112,11 @@ module _ {piece : ℕ → List ℕ} {text : List ℕ → List ℕ} (made : Piece
 
   pub all_written : length xs ≤ i → l ≡ wrote start all
   all_written h = sym (wrote_none l) ∙ ap (wrote l) (sym made.none ∙ ap text (sym (drop_of_length-le xs h))) ∙ s
+
+-- the same, where xs is what is left of the numbers
+module _ {piece : ℕ → List ℕ} {text : List ℕ → List ℕ} (made : Pieces piece text) (start : Line) (all xs : List ℕ) (l : Line) (s : wrote l (text xs) ≡ wrote start all) where
+  pub next_written : (x : ℕ) (rest : List ℕ) (l' : Line) → xs ≡ x ∷ rest → l' ≡ wrote l (piece x) → wrote l' (text rest) ≡ wrote start all
+  next_written x rest l' e f = wrote_next l (piece x) (text rest) (text xs) l' (ap text e ∙ made.more x rest) f ∙ s
+
+  pub none_written : xs ≡ [] → l ≡ wrote start all
+  none_written e = sym (wrote_none l) ∙ ap (wrote l) (sym made.none ∙ ap text (sym e)) ∙ s

@@ -2,6 +2,7 @@
 // and what waits. The last line is one word, for scripts.
 #![tactic(auto)]
 
+use lxtr_bytes::labels::Labels;
 use lxtr_lines::keys::{append_labels, append_spaced};
 use lxtr_messages::{Sentence, print_text, refuse, refuse_at, say};
 use lxtr_output::print;
@@ -37,7 +38,7 @@ fn print_all(labels: &[u8]) {
         if is_first {
             append_spaced(&mut line, part);
         } else {
-            append_labels(&mut line, part, 0);
+            append_labels(&mut line, Labels::of(part));
         }
         print(line.as_slice());
         is_first = false;
