@@ -13,7 +13,6 @@ use Rattle.lxtr_spec.specs.declared.refusals.Refusal.TheVariants.{TooManyLabels,
 use Rattle.lxtr_spec.specs.Answers.{refusal_of, answer_or, number}
 use Rattle.lxtr_laws.specs.Failures.{number_not_0}
 use Rattle.lxtr_build_laws.specs.KeyListFacts.{KeysPassed}
-use Rattle.lxtr_build_laws.specs.Passing.{list_passed}
 use Rattle.lxtr_build_laws.specs.CodeTables.{picked, CodeTables, Mapped}
 use Rattle.lxtr_build_laws.specs.TableCodes.{picked_length}
 use Rattle.lxtr_build_laws.specs.Work.{placed_as}
@@ -74,9 +73,6 @@ module _ (keys : List ℕ) (W R : ℕ) (out : List ℕ) where
 
 -- refusals 15 to 19, or what the keys give
 module _ (keys : List ℕ) where
-  pub keys_pass : 0 ≡ list_refusal keys → KeysPassed keys
-  keys_pass z = list_passed keys (sym z)
-
   module _ (W R : ℕ) (out : List ℕ) where
     pub keys_refused : (e : Refusal) → number e ≡ list_refusal keys → Answers (from_keys W R keys) out (Err e) out
     unfolding from_keys

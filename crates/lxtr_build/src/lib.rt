@@ -4,14 +4,13 @@
 ghost use Rattle.std.specs.Prelude.{◌≡◌, length, replicate};
 ghost use Rattle.lxtr_spec.specs.Answers.{refusal_of, answer_or};
 ghost use Rattle.lxtr_spec.specs.Builds.{from_keys, build_of};
-ghost use Rattle.lxtr_build_laws.specs.KeyListFacts.{KeysPassed};
 ghost use Rattle.lxtr_build_laws.specs.Work.{Cleared};
 ghost use Rattle.lxtr_write.specs.WriteOutcomes.{Answers};
 ghost use Rattle.lxtr_build.specs.BuildReturns.{labels_outcome, placed_outcome};
 
 use lxtr_codes::tables::Tables;
 use lxtr_codes::{TABLE_SIZE, code_map};
-use lxtr_keys::list_refusal;
+use lxtr_keys::list::KeyList;
 use lxtr_place::place_all;
 use lxtr_spec::refusals::Refusal;
 use lxtr_write::put_image;
@@ -29,22 +28,21 @@ fn clear(work: &mut [u32])
 // Builds from keys whose code map is known: places them, and writes the image.
 fn build_mapped(tables: &Tables, work: &mut [u32], out: &mut [u8]) -> Result<u32, Refusal>
     requires { Cleared work.old }
-    ensures { Answers (placed_outcome tables.now.keys.now work.old out.old) out.old result out.new }
+    ensures { Answers (placed_outcome tables.now.keys.bytes.now work.old out.old) out.old result out.new }
 {
     place_all(tables, work).ok_or(Refusal::TooFewSlots)?;
     put_image(out, work, tables)
 }
 
 // Builds from keys that are not refused. The tables have room for one label more than a code map may list.
-fn build_keys(keys: &[u8], work: &mut [u32], out: &mut [u8]) -> Result<u32, Refusal>
-    requires keys_passed { KeysPassed keys.now }
-    requires cleared { Cleared work.old }
-    ensures { Answers (labels_outcome keys.now work.old out.old) out.old result out.new }
+fn build_keys(keys: KeyList, work: &mut [u32], out: &mut [u8]) -> Result<u32, Refusal>
+    requires { Cleared work.old }
+    ensures { Answers (labels_outcome keys.entry.bytes.now work.old out.old) out.old result out.new }
 {
     let mut labels = [0u32; TABLE_SIZE];
     let mut codes = [0u32; TABLE_SIZE];
     let mut order = [0u32; TABLE_SIZE];
-    let count = code_map(keys, &mut labels, &mut codes, &mut order)?;
+    let count = code_map(&keys, &mut labels, &mut codes, &mut order)?;
     let tables = Tables {
         keys,
         labels: &labels[..count],
@@ -59,8 +57,7 @@ fn build_cleared(keys: &[u8], work: &mut [u32], out: &mut [u8]) -> Result<u32, R
     requires { Cleared work.old }
     ensures { Answers (from_keys (length work.old) (length out.old) keys.now) out.old result out.new }
 {
-    list_refusal(keys)?;
-    build_keys(keys, work, out)
+    build_keys(KeyList::read(keys)?, work, out)
 }
 
 // Builds the image of a key list at the front of the output. Returns its length, or a refusal, which leaves the output untouched.

@@ -15,4 +15,4 @@ label_in p = label_by p.tables.now.labels.now p.tables.now.order.now
 
 -- what is left of its keys, with their value numbers
 abbrev pub pairs_in : KeyGroup → List Pair
-pairs_in g = group_of g.plan.now.tables.now.keys.now g.span
+pairs_in g = group_of g.plan.now.tables.now.keys.bytes.now g.span

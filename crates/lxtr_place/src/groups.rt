@@ -27,6 +27,6 @@ pub struct Group {
 pub struct KeyGroup<'a> {
     pub plan: &'a Plan<'a>,
     pub span: Group,
-    ghost placeable: { Placeable plan.now.tables.now.keys.now plan.now.tables.now.labels.now plan.now.tables.now.codes.now span } by { Placeable-prop plan.now.tables.now.keys.now plan.now.tables.now.labels.now plan.now.tables.now.codes.now span },
-    ghost indexed: { Indexed plan.now.tables.now.keys.now plan.now.starts.now span } by { Indexed-prop plan.now.tables.now.keys.now plan.now.starts.now span },
+    ghost placeable: { Placeable plan.now.tables.now.keys.bytes.now plan.now.tables.now.labels.now plan.now.tables.now.codes.now span } by { Placeable-prop plan.now.tables.now.keys.bytes.now plan.now.tables.now.labels.now plan.now.tables.now.codes.now span },
+    ghost indexed: { Indexed plan.now.tables.now.keys.bytes.now plan.now.starts.now span } by { Indexed-prop plan.now.tables.now.keys.bytes.now plan.now.starts.now span },
 }

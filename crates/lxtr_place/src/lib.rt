@@ -12,7 +12,6 @@ ghost use Rattle.std.specs.Prelude.{◌≡◌, ◌+◌, ◌<◌, length};
 ghost use Rattle.lxtr_spec.specs.KeyLists.{key_count, pairs_of};
 ghost use Rattle.lxtr_spec.specs.CodeMaps.{map_of};
 ghost use Rattle.lxtr_spec.specs.Builds.{placed_in};
-ghost use Rattle.lxtr_build_laws.specs.KeyListFacts.{KeysPassed};
 ghost use Rattle.lxtr_build_laws.specs.Work.{Cleared, placed_as};
 ghost use Rattle.lxtr_place.specs.AllKeys.{StartsPut};
 
@@ -22,7 +21,8 @@ use lxtr_codes::guesses::Guesses;
 use lxtr_codes::tables::Tables;
 use lxtr_fit::free_map::FreeSlots;
 use lxtr_fit::slots::slots_in;
-use lxtr_keys::{KEYS_AT, key_count, next_key};
+use lxtr_keys::list::KeyList;
+use lxtr_keys::{KEYS_AT, next_key};
 use lxtr_spec::{LENGTH_COUNT, MAX_KEYS};
 
 // Room for the codes of the children of all slots on the way to a slot. At each of these slots, all codes but one belong to keys
@@ -30,17 +30,16 @@ use lxtr_spec::{LENGTH_COUNT, MAX_KEYS};
 const ROOM: usize = MAX_KEYS + LENGTH_COUNT;
 
 // Writes where each key starts and, after the last one, where the list ends.
-fn put_starts(keys: &[u8], starts: &mut [u32])
-    requires keys_passed { KeysPassed keys.now }
-    requires keys_in_bounds { key_count keys.now < length starts.old }
+fn put_starts(keys: &KeyList, starts: &mut [u32])
+    requires { key_count keys.now.bytes.now < length starts.old }
     ensures starts_len_unchanged { length starts.new ≡ length starts.old }
-    ensures starts_put { StartsPut keys.now starts.new (key_count keys.now + 1) }
+    ensures starts_put { StartsPut keys.now.bytes.now starts.new (key_count keys.now.bytes.now + 1) }
 {
-    let count = key_count(keys);
+    let count = keys.count();
     let mut at: usize = KEYS_AT;
     for i in 0..count {
         starts[i] = at as u32;
-        at = next_key(keys, at);
+        at = next_key(keys.bytes, at);
     }
     starts[count] = at as u32;
 }
@@ -48,10 +47,10 @@ fn put_starts(keys: &[u8], starts: &mut [u32])
 // Places all keys, starting at slot 1, with the tables of their code map. Answers nothing if some slot gets no base.
 pub fn place_all(tables: &Tables, work: &mut [u32]) -> Option<()>
     requires { Cleared work.old }
-    ensures { placed_as result work.new ≡ placed_in (length work.old) (pairs_of tables.now.keys.now) (map_of (pairs_of tables.now.keys.now)) }
+    ensures { placed_as result work.new ≡ placed_in (length work.old) (pairs_of tables.now.keys.bytes.now) (map_of (pairs_of tables.now.keys.bytes.now)) }
 {
     let mut starts = [0u32; MAX_KEYS + 1];
-    put_starts(tables.keys, &mut starts);
+    put_starts(&tables.keys, &mut starts);
     let mut guesses = Guesses::new();
     guesses.note_all(tables.labels);
     let plan = Plan {
@@ -64,7 +63,7 @@ pub fn place_all(tables: &Tables, work: &mut [u32]) -> Option<()>
         span: Group {
             at: KEYS_AT,
             first: 0,
-            count: key_count(tables.keys),
+            count: tables.keys.count(),
             depth: 0,
         },
     };

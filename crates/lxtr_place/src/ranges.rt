@@ -1,37 +1,35 @@
 // The parts of a group: the group of a child, and the value of the key that ends at the slot.
 ghost use Rattle.std.specs.Prelude.{◌≡◌, ◌+◌, ◌≤◌, ◌<◌, length, drop};
 ghost use Rattle.lxtr_spec.specs.Labels.{length_count, value_limit};
-ghost use Rattle.lxtr_spec.specs.KeyLists.{key_at};
 ghost use Rattle.lxtr_spec.specs.Placing;
 ghost use Rattle.lxtr_spec.specs.Placing.{end_value};
-ghost use Rattle.lxtr_build_laws.specs.KeyListFacts.{WholeKey};
+ghost use Rattle.lxtr_keys.specs.Keys.{labels_in};
 ghost use Rattle.lxtr_place.specs.GroupRanges.{place_of, group_of, Grouped, goes_by, is_under, run_of};
 ghost use Rattle.lxtr_place.specs.GroupLoops.{Skipped};
 ghost use Rattle.lxtr_place.specs.Plans.{pairs_in, label_in};
 
 use crate::groups::{Group, KeyGroup};
-use lxtr_keys::{key_label, key_length, next_key};
+use lxtr_keys::key::Key;
+use lxtr_keys::key_length;
 
-// Whether the key at `at` continues with label x after `depth` labels.
-pub fn goes_by(keys: &[u8], at: usize, depth: usize, x: u32) -> bool
-    requires { WholeKey keys.now at }
-    ensures { result ≡ goes_by x (drop depth (key_at keys.now at)) }
+// Whether a key continues with label x after `depth` labels.
+pub fn goes_by(key: &Key, depth: usize, x: u32) -> bool
+    ensures { result ≡ goes_by x (drop depth (labels_in key.now)) }
 {
-    if key_length(keys, at) <= depth {
+    if key.len() <= depth {
         return false;
     }
-    key_label(keys, at, depth) == x
+    key.label(depth) == x
 }
 
-// Whether the key at `at` ends after `depth` labels, or continues with a label below x.
-fn is_under(keys: &[u8], at: usize, depth: usize, x: u32) -> bool
-    requires { WholeKey keys.now at }
-    ensures { result ≡ is_under x (drop depth (key_at keys.now at)) }
+// Whether a key ends after `depth` labels, or continues with a label below x.
+fn is_under(key: &Key, depth: usize, x: u32) -> bool
+    ensures { result ≡ is_under x (drop depth (labels_in key.now)) }
 {
-    if key_length(keys, at) <= depth {
+    if key.len() <= depth {
         return true;
     }
-    key_label(keys, at, depth) < x
+    key.label(depth) < x
 }
 
 // How many keys at the front of a group continue with label x.
@@ -41,10 +39,11 @@ fn run_of(keys: &[u8], g: Group, x: u32) -> usize
 {
     let mut at = g.at;
     for i in 0..g.count {
-        if !goes_by(keys, at, g.depth, x) {
+        let key = Key { keys, at };
+        if !goes_by(&key, g.depth, x) {
             return i;
         }
-        at = next_key(keys, at);
+        at = key.next();
     }
     g.count
 }
@@ -53,26 +52,26 @@ impl<'a> KeyGroup<'a> {
     // Where key i starts. For i = count this is where the last key ends.
     fn start_of(&self, i: usize) -> usize
         requires { i ≤ self.now.span.count }
-        ensures { result ≡ place_of self.now.plan.now.tables.now.keys.now i self.now.span.at }
+        ensures { result ≡ place_of self.now.plan.now.tables.now.keys.bytes.now i self.now.span.at }
     {
         self.plan.starts[self.span.first + i] as usize
     }
 
     // How many keys at the front are under x.
     fn skip_to(&self, x: u32) -> usize
-        ensures { Skipped self.now.plan.now.tables.now.keys.now self.now.span x result }
+        ensures { Skipped self.now.plan.now.tables.now.keys.bytes.now self.now.span x result }
     {
+        let list = self.plan.tables.keys;
         let mut low: usize = 0;
         let mut high = self.span.count;
         // A binary search of its own: `partition_point` asks of its test that it may be called at any position.
         while low < high {
             let mid = low + (high - low) / 2;
-            if is_under(
-                self.plan.tables.keys,
-                self.start_of(mid),
-                self.span.depth,
-                x,
-            ) {
+            let key = Key {
+                keys: list.bytes,
+                at: self.start_of(mid),
+            };
+            if is_under(&key, self.span.depth, x) {
                 low = mid + 1;
             } else {
                 high = mid;
@@ -88,6 +87,7 @@ impl<'a> KeyGroup<'a> {
         ensures depth_value { result.span.depth ≡ self.now.span.depth + 1 }
         ensures pairs_value { pairs_in result ≡ Placing.below x (pairs_in self.now) }
     {
+        let list = self.plan.tables.keys;
         let skipped = self.skip_to(x);
         let from = Group {
             at: self.start_of(skipped),
@@ -95,7 +95,7 @@ impl<'a> KeyGroup<'a> {
             count: self.span.count - skipped,
             depth: self.span.depth,
         };
-        let count = run_of(self.plan.tables.keys, from, x);
+        let count = run_of(list.bytes, from, x);
         KeyGroup {
             plan: self.plan,
             span: Group {
@@ -126,7 +126,8 @@ impl<'a> KeyGroup<'a> {
         if self.span.count == 0 {
             return 0;
         }
-        if self.span.depth < key_length(self.plan.tables.keys, self.span.at) {
+        let list = self.plan.tables.keys;
+        if self.span.depth < key_length(list.bytes, self.span.at) {
             return 0;
         }
         self.span.first as u32

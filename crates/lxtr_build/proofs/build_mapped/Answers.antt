@@ -16,7 +16,7 @@ returns-in_err-ok_or c =
 pub put_image-requires : goal.put_image-requires
 put_image-requires c =
     let some : c.place_all.result ≡ Some tt = grind arith in
-    image_ready _ _ _ 0 c.args.out.now _ c.place_all.ensures some _ c.args.tables.now.codes.now _ c.args.tables.now.right c.place_all.auto.work c.args.tables.now.passed c.requires.room
+    image_ready _ _ _ 0 c.args.out.now _ c.place_all.ensures some _ c.args.tables.now.codes.now _ c.args.tables.now.right c.place_all.auto.work c.args.tables.now.keys.passed c.requires.room
 
 pub returns : goal.returns
 returns c =

@@ -8,8 +8,8 @@ loop-low-init c = search search_start
 pub start_of-requires : goal.start_of-requires
 start_of-requires c = omega arith
 
-pub is_under-requires : goal.is_under-requires
-is_under-requires c = search mid_whole
+pub invariant_of-key : goal.invariant_of-key
+invariant_of-key c = record { whole = search mid_whole }
 
 pub loop-low-preserved-then-is_under : goal.loop-low-preserved-then-is_under
 loop-low-preserved-then-is_under c = search search_low

@@ -15,7 +15,7 @@ returns-in_err-base-clause-words_after t c =
 pub loop-j-init : goal.loop-j-init
 loop-j-init t c =
     let plan = c.args.g.now.plan.now in
-    let called : Called plan.tables.now.keys.now plan.starts.now plan.tables.now.labels.now plan.tables.now.codes.now plan.tables.now.order.now c.args.self.now.slots c.args.left c.args.p c.args.g.now.span c.args.self.now.words.now c.args.room.now =
+    let called : Called plan.tables.now.keys.bytes.now plan.starts.now plan.tables.now.labels.now plan.tables.now.codes.now plan.tables.now.order.now c.args.self.now.slots c.args.left c.args.p c.args.g.now.span c.args.self.now.words.now c.args.room.now =
     record { tables = plan.tables.now.right; placeable = c.args.g.now.placeable; fresh = c.requires.fresh; deep = c.requires.deep; lent = record { indexed = c.args.g.now.indexed; long = c.requires.long } } in
     let answer = rw c.end_value.ensures.value at c.settle.ensures.words_after in
     let w = within called _ _ _ c.child_codes-count.ensures.upper_bound c.child_codes-count.auto.room c.child_codes-count.ensures.room_after _ _ answer c.in_ok-base.was c.if-left-eq0.false in
