@@ -1,5 +1,5 @@
 // Labels: whether a number is one, and reading them from bytes, four to a label, big-endian, as in a query.
-ghost use Rattle.std.specs.Prelude.{◌≡◌, ◌<◌, length, get_or};
+ghost use Rattle.std.specs.Prelude.{◌≡◌, ◌<◌, [], length, get_or};
 ghost use Rattle.std.specs.Iterator.{YieldsFirst, item_count};
 ghost use Rattle.lxtr_spec.specs.Labels.{is_scalar, labels_of};
 
@@ -65,5 +65,13 @@ impl<'a> Labels<'a> {
         ensures { result ≡ labels_of query.now }
     {
         Labels { bytes: query }
+    }
+
+    // Gives up the labels that are left.
+    #[tactic(auto, using(lxtr_laws::specs::QueryLabels::labels_none))]
+    pub fn clear(&mut self)
+        ensures { self.new ≡ [] }
+    {
+        self.bytes = &self.bytes[..0];
     }
 }

@@ -1,6 +1,6 @@
 -- The prefixes of a query that have a value, as one walk finds them: each slot on the way adds its own match. If the walk stops, no
 -- longer prefix has a value.
-use Rattle.std.specs.Prelude.{ℕ, Bool, true, false, ltb, suc, ◌+◌, ◌*◌, ◌-◌, min, ◌<◌, ◌≤◌, ◌≡◌, refl, List, [], ◌∷◌, ◌++◌, map, length, take, set, replicate, Option, Some, None, MatchOption, IfSome}
+use Rattle.std.specs.Prelude.{ℕ, Bool, true, false, ltb, suc, ◌+◌, ◌*◌, ◌-◌, min, ◌<◌, ◌≤◌, ◌≡◌, refl, List, [], ◌∷◌, ◌++◌, map, length, take, set, replicate, Option, Some, None}
 use Rattle.std.proofs.Common.{sym, ap, ◌∙◌, arith, le_refl, append-nil, append_assoc, length-append, length-set, take_all, length-take}
 use Rattle.std.proofs.lemmas.List.{map-append, take-append-le, take_more_set, length-take-le, length-replicate}
 use Rattle.std.proofs.Math.Seq.{set-append_seam}
@@ -8,12 +8,10 @@ use native.Mathlib.Nat.{sub-zero}
 use borrow.Author.Tests.{ltb-true, ltb-false}
 use Rattle.lxtr_spec.specs.Ranges.{concat_from}
 use Rattle.lxtr_spec.specs.Labels.{max_labels, length_count, labels_of}
-use Rattle.lxtr_spec.specs.Image.{slot_count}
 use Rattle.lxtr_spec.specs.Walks.{step_by, walk, value_at, value_reached, value_of}
 use Rattle.lxtr_spec.specs.Searches.{length_match, match_at, matches, prefix_matches}
 use Rattle.lxtr_spec.specs.declared.Match.{Match}
 use Rattle.lxtr_laws.specs.RangeTests.{more}
-use Rattle.lxtr_laws.specs.StepFacts.{none_not_some}
 use Rattle.lxtr_laws.specs.QueryLabels.{label_count_lem, front_labels}
 
 abbrev pub pair_of : Match → ℕ × ℕ
@@ -35,6 +33,11 @@ unfoldable pub matches_on : List ℕ → Option ℕ → ℕ → List ℕ → Lis
 matches_on b None k xs = []
 matches_on b (Some n) k [] = match_of k (value_at b n)
 matches_on b (Some n) k (x ∷ xs) = match_of k (value_at b n) ++ matches_on b (step_by b n x) (k + 1) xs
+
+-- those after the one at the slot
+unfoldable pub matches_after : List ℕ → ℕ → ℕ → List ℕ → List Match
+matches_after b n k [] = []
+matches_after b n k (x ∷ xs) = matches_on b (step_by b n x) (k + 1) xs
 
 -- the labels of a query that count
 abbrev pub counted : List ℕ → List ℕ
@@ -100,29 +103,31 @@ module _ (b q : List ℕ) where
   unfolding all_matches prefix_matches matches walk
   all_pairs = on_pairs b [] (counted q)
 
--- a turn of the loop: l is the next label, if any, ys are the labels after it, and s is the slot that is reached then
-module _ (b : List ℕ) (n k : ℕ) (xs ys : List ℕ) where
-  turn_by : (l : Option ℕ) → MatchOption l ((xs ≡ []) × (ys ≡ [])) (λ x. xs ≡ x ∷ ys) → matches_on b (Some n) k xs ≡ match_of k (value_at b n) ++ matches_on b (slot_after b (Some n) l) (k + 1) ys
-  unfolding matches_on
-  turn_by None h = rw (h.0, append-nil)
-  turn_by (Some x) h = rw h
+-- the match at the slot, and then those after it
+on_slot : (b : List ℕ) (n k : ℕ) (xs : List ℕ) → matches_on b (Some n) k xs ≡ match_of k (value_at b n) ++ matches_after b n k xs
+unfolding matches_on matches_after
+on_slot b n k [] = sym (append-nil (match_of k (value_at b n)))
+on_slot b n k (x ∷ xs) = refl
 
-  module _ (all : List Match) (l s v : Option ℕ) (before : matches_on b (Some n) k xs ≡ all) (next : MatchOption l ((xs ≡ []) × (ys ≡ [])) (λ x. xs ≡ x ∷ ys)) (slot : s ≡ slot_after b (Some n) l) (value : v ≡ value_at b n) where
-    pub turn_found : (w : ℕ) → v ≡ Some w → all ≡ record { length = k; value = w } ∷ matches_on b s (k + 1) ys
+-- the labels that are left are x and then ys; r is what the step by x answered
+module _ (b : List ℕ) (n k x : ℕ) (xs ys : List ℕ) (all : List Match) (r : Option ℕ) (before : matches_after b n k xs ≡ all) (next : xs ≡ x ∷ ys) (step : r ≡ step_by b n x) where
+  pub turn_stopped : r ≡ None → all ≡ []
+  unfolding matches_after matches_on
+  turn_stopped e = rw (← before, next, ← step, e)
+
+  turn_on : (t : ℕ) → r ≡ Some t → match_of (k + 1) (value_at b t) ++ matches_after b t (k + 1) ys ≡ all
+  unfolding matches_after
+  turn_on t e = rw (← before, next, ← step, e) (sym (on_slot b t (k + 1) ys))
+
+  -- v is the value at the slot that is reached
+  module _ (t : ℕ) (v : Option ℕ) (reached : r ≡ Some t) (value : v ≡ value_at b t) where
+    pub turn_found : (w : ℕ) → v ≡ Some w → all ≡ record { length = k + 1; value = w } ∷ matches_after b t (k + 1) ys
     unfolding match_of
-    turn_found w e = rw (slot, ← before, turn_by l next, ← value, e)
+    turn_found w e = rw (← turn_on t reached, ← value, e)
 
-    pub turn_passed : v ≡ None → matches_on b s (k + 1) ys ≡ all
+    pub turn_passed : v ≡ None → matches_after b t (k + 1) ys ≡ all
     unfolding match_of
-    turn_passed e = rw (slot, ← before, turn_by l next, ← value, e)
-
-  -- and what the next turn needs of the walk
-  pub turn_fits : (l s : Option ℕ) (m : ℕ) → MatchOption l ((xs ≡ []) × (ys ≡ [])) (λ x. xs ≡ x ∷ ys) → s ≡ slot_after b (Some n) l → IfSome s (λ t. t < slot_count b) → k + length xs ≤ m
-      → IfSome s (λ t. (t < slot_count b) × (k + 1 + length ys ≤ m))
-  turn_fits None None m h e below fits = tt
-  turn_fits None (Some t) m h e below fits = absurd (none_not_some (sym e))
-  turn_fits (Some x) None m h e below fits = tt
-  turn_fits (Some x) (Some t) m h e below fits = (below, omega (arith, ap length h))
+    turn_passed e = rw (← turn_on t reached, ← value, e)
 
 at_most_one : (k : ℕ) (o : Option ℕ) → length (match_of k o) ≤ 1
 unfolding match_of
@@ -175,6 +180,13 @@ module _ (q : List ℕ) (e : ℕ) (end : e ≡ min (length q) (4 * max_labels)) 
   pub counted_few : length (labels_of (take e q)) ≤ max_labels
   counted_few = rw counted_front (omega (arith, length-take max_labels (labels_of q)))
 
--- there are no more matches than possible lengths
-pub on_limit : (b : List ℕ) (o : Option ℕ) (xs : List ℕ) → length xs ≤ max_labels → length (matches_on b o 0 xs) ≤ length_count
-on_limit b o xs h = omega (arith, on_count b o 0 xs)
+-- the matches of a query are that of the empty prefix and those after it, with the labels xs that count; there are no more than possible
+-- lengths
+module _ (b q xs : List ℕ) (counts : xs ≡ counted q) where
+  pub all_after : match_of 0 (value_at b 1) ++ matches_after b 1 0 xs ≡ all_matches b q
+  unfolding all_matches
+  all_after = rw (← on_slot, counts)
+
+  pub all_limit : length (all_matches b q) ≤ length_count
+  unfolding all_matches
+  all_limit = omega (arith, on_count b (Some 1) 0 (counted q), length-take max_labels (labels_of q))

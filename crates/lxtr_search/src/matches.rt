@@ -1,9 +1,8 @@
 // The prefixes of a query that have a value. One walk finds them all, because it passes the slot of each prefix.
-ghost use Rattle.std.specs.Prelude.{◌≡◌, ◌<◌, ◌≤◌, ◌-◌, ◌∷◌, ◌++◌, [], length, replicate, Some, IfSome};
+ghost use Rattle.std.specs.Prelude.{◌≡◌, ◌<◌, ◌≤◌, ◌-◌, ◌∷◌, ◌++◌, [], length, replicate};
 ghost use Rattle.std.specs.Iterator.{YieldsFirst, item_count};
 ghost use Rattle.lxtr_spec.specs.Labels.{length_count};
-ghost use Rattle.lxtr_spec.specs.Image.{slot_count};
-ghost use Rattle.lxtr_search.specs.Matches.{slot_after, all_matches, no_match};
+ghost use Rattle.lxtr_search.specs.Matches.{all_matches, no_match};
 
 use lxtr_bytes::labels::Labels;
 use lxtr_image::Image;
@@ -13,36 +12,28 @@ use std::marker::Model;
 
 // The matches of a query, one after the other, shortest first; in a contract they are the list of those that are left.
 #[derive(Drop)]
-pub(crate) struct Matches<'a> {
+pub struct Matches<'a> {
     image: Image<'a>,
-    slot: Option<u32>,
+    first: Option<u32>,
+    slot: u32,
     walked: u32,
     labels: Labels<'a>,
 }
 
 impl<'a> Model for Matches<'a> {
-    ghost use Rattle.std.specs.Prelude.{List, ◌+◌, ◌<◌, ◌≤◌, IfSome, length};
+    ghost use Rattle.std.specs.Prelude.{List, ◌+◌, ◌++◌, ◌<◌, ◌≤◌, length};
     ghost use Rattle.lxtr_spec.specs.declared.Match.{Match};
     ghost use Rattle.lxtr_spec.specs.Labels.{max_labels};
     ghost use Rattle.lxtr_spec.specs.Image.{slot_count};
-    ghost use Rattle.lxtr_search.specs.Matches.{matches_on};
+    ghost use Rattle.lxtr_search.specs.Matches.{match_of, matches_after};
 
     ghost Value = { List Match };
 
-    // The first `walked` labels of the query reach the slot, if there is one; `labels` are those after them.
-    ghost view = { λ s. matches_on s.image s.slot s.walked s.labels };
+    // The value of the empty prefix, if it has one and has not been given; then what the walk meets from the slot on, which `walked` labels
+    // reached.
+    ghost view = { λ s. match_of 0 s.first ++ matches_after s.image s.slot s.walked s.labels };
 
-    ghost invariant = { λ s. IfSome s.slot (λ n. (n < slot_count s.image) × (s.walked + length s.labels ≤ max_labels)) };
-}
-
-// The slot after one more label, if the walk goes on.
-#[tactic(auto, unfolding(crate::specs::Matches::slot_after))]
-fn after(image: &Image, n: u32, label: Option<u32>) -> Option<u32>
-    requires { n < slot_count image.now }
-    ensures value { result ≡ slot_after image.now (Some n) label }
-    ensures below { IfSome result (λ t. t < slot_count image.now) }
-{
-    step_by(image, n, label?)
+    ghost invariant = { λ s. (s.slot < slot_count s.image) × (s.walked + length s.labels ≤ max_labels) };
 }
 
 impl<'a> Iterator for Matches<'a> {
@@ -52,14 +43,25 @@ impl<'a> Iterator for Matches<'a> {
 
     ghost remaining = { item_count (λ s. s) };
 
+    // A step that fails returns at once, so that the next step need not wait for this one's test.
+    #[inline(always)]
     fn next(&mut self) -> Option<Match> {
-        while let Some(n) = self.slot {
-            let length = self.walked;
-            let label = self.labels.next();
-            self.slot = after(&self.image, n, label);
+        if let Some(value) = self.first {
+            self.first = None;
+            return Some(Match { length: 0, value });
+        }
+        while let Some(label) = self.labels.next() {
+            let Some(slot) = step_by(&self.image, self.slot, label) else {
+                self.labels.clear();
+                return None;
+            };
+            self.slot = slot;
             self.walked += 1;
-            if let Some(value) = value_at(&self.image, n) {
-                return Some(Match { length, value });
+            if let Some(value) = value_at(&self.image, slot) {
+                return Some(Match {
+                    length: self.walked,
+                    value,
+                });
             }
         }
         None
@@ -68,15 +70,17 @@ impl<'a> Iterator for Matches<'a> {
 
 impl<'a> Matches<'a> {
     // All matches of a query. Only its first MAX_LABELS labels count.
-    pub(crate) fn of(image: Image<'a>, query: &'a [u8]) -> Self
+    pub fn of(image: Image<'a>, query: &'a [u8]) -> Self
         ensures value { result ≡ all_matches image.entry query.now }
         ensures limit { length result ≤ length_count }
     {
         let end = query.len().min(4 * MAX_LABELS);
         let labels = Labels::of(&query[..end]);
-        let slot = Some(image.root());
+        let slot = image.root();
+        let first = value_at(&image, slot);
         Matches {
             image,
+            first,
             slot,
             walked: 0,
             labels,

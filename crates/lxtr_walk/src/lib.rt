@@ -45,6 +45,7 @@ pub fn step(image: &Image, n: u32, code: u32) -> Option<u32>
 
 // The step from slot n by a label. A label that isn't listed stops the walk.
 #[tactic(auto, unfolding(lxtr_spec::specs::Walks::step_by))]
+#[inline(always)]
 pub fn step_by(image: &Image, n: u32, label: u32) -> Option<u32>
     requires { n < slot_count image.now }
     ensures value { result ≡ step_by image.now n label }

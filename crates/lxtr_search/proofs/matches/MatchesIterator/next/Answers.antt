@@ -1,29 +1,54 @@
--- Each turn is one of the laws of `Matches`: it gives the match at the slot, or goes on with the matches after it.
+-- The first match is that of the empty prefix. Then each turn is one of the laws of `Matches`: it ends the walk, gives the match at the
+-- slot that is reached, or goes on.
 use Rattle.std.proofs.Common.{length, sym, ap, arith}
 use Rattle.lxtr_spec.specs.Labels.{max_labels}
-use Rattle.lxtr_search.specs.Matches.{matches_on, turn_found, turn_passed, turn_fits}
+use Rattle.lxtr_search.specs.Matches.{match_of, matches_after, turn_stopped, turn_found, turn_passed}
 use Rattle.lxtr_search.proofs.matches.MatchesIterator.next.Goals as goal
+
+pub returns-in-Some-clause-steps : goal.returns-in-Some-clause-steps
+unfolding match_of
+returns-in-Some-clause-steps c = let e = rw c.in-Some.is at c.self.view_is in sym e
+
+pub returns-in-Some-clause-goes : goal.returns-in-Some-clause-goes
+unfolding match_of
+returns-in-Some-clause-goes c =
+    let e = rw c.in-Some.is at c.self.view_is in
+    record { on = λ _. (tt, tt, omega (arith, ap length e)); keeps = tt; rests = λ _. tt }
+
+pub loop-label-init : goal.loop-label-init
+unfolding match_of
+loop-label-init c = let e = rw c.in_default.is at c.self.view_is in (c.in_default.is, e, c.self.invariant.0, c.self.invariant.1)
+
+pub returns-in_default-step_by-clause-steps : goal.returns-in_default-step_by-clause-steps
+unfolding match_of matches_after
+returns-in_default-step_by-clause-steps c =
+    (turn_stopped _ _ _ _ _ _ _ _ c.loop-label.invariant.1 c.in-Some-next.ensures.steps c.step_by.ensures.value c.in_default-step_by.is, rw (c.loop-label.invariant.0, c.clear.ensures))
 
 pub overflow_add-self : goal.overflow_add-self
 unfolding max_labels
-overflow_add-self c = let h = rw c.in-Some.is at c.loop-self.invariant.1 in omega (arith, h.1)
+overflow_add-self c = omega (arith, c.loop-label.invariant.3, ap length c.in-Some-next.ensures.steps)
 
 pub returns-in-Some-value_at-clause-steps : goal.returns-in-Some-value_at-clause-steps
+unfolding match_of
 returns-in-Some-value_at-clause-steps c =
-    turn_found _ _ _ _ _ _ _ _ _ (rw c.in-Some.is at c.loop-self.invariant.0) c.next-label.ensures.steps c.after-self-inside.ensures.value c.value_at.ensures _ c.in-Some-value_at.is
+    rw c.loop-label.invariant.0 (turn_found _ _ _ _ _ _ _ _ c.loop-label.invariant.1 c.in-Some-next.ensures.steps c.step_by.ensures.value _ _ c.in-Some-step_by.is c.value_at.ensures _ c.in-Some-value_at.is)
 
 pub returns-in-Some-value_at-clause-goes : goal.returns-in-Some-value_at-clause-goes
+unfolding match_of
 returns-in-Some-value_at-clause-goes c =
-    let e = turn_found _ _ _ _ _ _ _ _ _ (rw c.in-Some.is at c.loop-self.invariant.0) c.next-label.ensures.steps c.after-self-inside.ensures.value c.value_at.ensures _ c.in-Some-value_at.is in
-    record { on = λ _. (tt, tt, omega (arith, ap length e)); keeps = tt; rests = λ _. tt }
+    let e = turn_found _ _ _ _ _ _ _ _ c.loop-label.invariant.1 c.in-Some-next.ensures.steps c.step_by.ensures.value _ _ c.in-Some-step_by.is c.value_at.ensures _ c.in-Some-value_at.is in
+    record { on = λ _. (tt, tt, rw c.loop-label.invariant.0 (omega (arith, ap length e))); keeps = tt; rests = λ _. tt }
 
-pub loop-self-preserved : goal.loop-self-preserved
-loop-self-preserved c =
-    let h = rw c.in-Some.is at c.loop-self.invariant.1 in (
-      turn_passed _ _ _ _ _ _ _ _ _ (rw c.in-Some.is at c.loop-self.invariant.0) c.next-label.ensures.steps c.after-self-inside.ensures.value c.value_at.ensures c.in_default-value_at.is,
-      turn_fits _ _ _ _ _ _ _ _ c.next-label.ensures.steps c.after-self-inside.ensures.value c.after-self-inside.ensures.below h.1,
-    )
+pub loop-label-preserved : goal.loop-label-preserved
+loop-label-preserved c = (
+  c.loop-label.invariant.0,
+  turn_passed _ _ _ _ _ _ _ _ c.loop-label.invariant.1 c.in-Some-next.ensures.steps c.step_by.ensures.value _ _ c.in-Some-step_by.is c.value_at.ensures c.in_default-value_at.is,
+  c.in-Some-step_by.ensures.below,
+  omega (arith, c.loop-label.invariant.3, ap length c.in-Some-next.ensures.steps),
+)
 
 pub returns-clause-steps : goal.returns-clause-steps
-unfolding matches_on
-returns-clause-steps c = let e = rw c.in_default.is at c.loop-self.invariant.0 in (sym e, rw c.in_default.is)
+unfolding match_of matches_after
+returns-clause-steps c =
+    let e = rw c.in_default-next.ensures.steps.0 at c.loop-label.invariant.1 in
+    (sym e, rw (c.loop-label.invariant.0, c.in_default-next.ensures.steps.1))
