@@ -1,7 +1,7 @@
 // The drawing of an image, in the language of Graphviz: what is drawn of each slot and each entry, as text in a lent line.
 #![tactic(auto)]
 
-ghost use Rattle.std.specs.Prelude.{◌≡◌, cond, ◌≤◌, ◌<◌};
+ghost use Rattle.std.specs.Prelude.{◌≡◌, ◌+◌, cond, ◌≤◌, ◌<◌};
 ghost use Rattle.lxtr_spec.specs.Image.{slot_count, child_count, has_leaf};
 ghost use Rattle.lxtr_command_spec.specs.Drawings.{colour, slot_line, step_line, entry_line, is_wrong_slot, is_wrong_entry, is_drawn, slot_text, step_text, list_of, entry_text};
 ghost use Rattle.lxtr_text.specs.Appends.{Appended};
@@ -155,7 +155,8 @@ pub fn step_text(image: &Image, s: u32, line: &mut [u8]) -> usize
 pub fn list_of(image: &Image, from: u32, j: u32) -> u32
     requires j_bound { j < child_count image.now }
     requires from_bound { from ≤ list_of image.now j }
-    ensures { result ≡ list_of image.now j }
+    ensures value { result ≡ list_of image.now j }
+    ensures next { result ≤ list_of image.now (j + 1) }
 {
     let _ = image.bytes(); // the last list ends after all entries, so there is such a slot
     let slots = image.slot_count();
