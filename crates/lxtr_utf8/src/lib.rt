@@ -3,7 +3,7 @@
 // order of texts by bytes is their order by labels.
 #![tactic(auto)]
 
-ghost use Rattle.std.specs.Prelude.{◌≡◌, ◌*◌, ◌≤◌, length};
+ghost use Rattle.std.specs.Prelude.{◌≡◌, ◌*◌, ◌≤◌, length, IfOk};
 ghost use Rattle.std.specs.Str.{chars};
 ghost use Rattle.lxtr_spec.specs.Numbers.{be_words};
 ghost use Rattle.lxtr_laws.specs.Overlays.{over};
@@ -40,7 +40,8 @@ fn put_labels(text: &str, room: &mut [u8])
 
 // Decodes the text into the room, four bytes to a label, big-endian. If there is a problem, nothing is written.
 pub fn decode(text: &[u8], room: &mut [u8]) -> Result<usize, TextProblem>
-    ensures { record { answer = decoded_in result; room = room.new } ≡ decoding_of text.now room.old }
+    ensures answer { record { answer = decoded_in result; room = room.new } ≡ decoding_of text.now room.old }
+    ensures within { IfOk result (λ n. 4 * n ≤ length room.new) }
 {
     let Ok(text) = str::from_utf8(text) else {
         return Err(TextProblem::NotUtf8);
