@@ -40,7 +40,10 @@ fn print_problem(problem: WordProblem) {
     match problem {
         WordProblem::NotUtf8(line) => tell(Sentence::LineNotUtf8, &[printed(line)]),
         WordProblem::LongWord(line) => {
-            tell(Sentence::LongWordLine, &[printed(line), printed(MAX_LABELS)]);
+            tell(
+                Sentence::LongWordLine,
+                &[printed(line), printed(MAX_LABELS)],
+            );
         }
         WordProblem::ManyWords => tell(Sentence::TooManyWords, &[printed(MAX_KEYS)]),
         WordProblem::NoRoom => tell(Sentence::LargeList, &[printed(LARGEST_FILE)]),
