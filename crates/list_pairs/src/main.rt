@@ -39,16 +39,11 @@ fn print_pair(record: Record<'_>) {
 // Prints the completions of the empty prefix.
 fn list_image(image: &[u8]) {
     let mut room = [0u8; LISTING_ROOM];
-    list_in(image, &mut room);
-}
-
-// The large arrays are lent as arrays, so that no proof has to count their elements.
-fn list_in(image: &[u8], room: &mut [u8; LISTING_ROOM]) {
-    match complete(image, b"", room) {
+    match complete(image, b"", &mut room) {
         Err(refusal) => print_refusal(refusal),
         Ok(listing) => {
             print_number(b"pairs", listing.count);
-            for record in Records::new(room, HEAD_LENGTH).take(listing.count as usize) {
+            for record in Records::new(&room, HEAD_LENGTH).take(listing.count as usize) {
                 print_pair(record);
             }
         }
@@ -59,16 +54,7 @@ fn list_in(image: &[u8], room: &mut [u8; LISTING_ROOM]) {
 fn list_keys(keys: &[u8]) {
     let mut work = [0u32; WORK_WORDS];
     let mut out = [0u8; OUTPUT_ROOM];
-    build_in(keys, &mut work, &mut out);
-}
-
-// Turns the arrays into slices, of which a part can be lent.
-fn build_in(keys: &[u8], work: &mut [u32; WORK_WORDS], out: &mut [u8; OUTPUT_ROOM]) {
-    build_into(keys, work, out);
-}
-
-fn build_into(keys: &[u8], work: &mut [u32], out: &mut [u8]) {
-    match build(keys, work, out) {
+    match build(keys, &mut work, &mut out) {
         Err(refusal) => print_refusal(refusal),
         Ok(length) => list_image(&out[..length as usize]),
     }
