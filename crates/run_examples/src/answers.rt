@@ -131,7 +131,7 @@ pub fn build(keys: &[u8], words: usize, size: usize) {
     say_built(answer, &work, words, &out);
 }
 
-// The two tests only make the bounds provable.
+// The two tests only make the bounds provable. Lending parts of the arrays where they are made, the proof did not close.
 fn build_front(
     keys: &[u8],
     work: &mut [u32],

@@ -90,14 +90,10 @@ fn run_script(script: &[u8], image: &mut [u8; ROOM], bytes: &mut [u8; ROOM]) {
     }
 }
 
-fn lend(script: &mut [u8; SCRIPT_ROOM]) {
-    let length = io::read_full(STANDARD_INPUT, script);
-    let mut image = [0u8; ROOM];
-    let mut bytes = [0u8; ROOM];
-    run_script(front(script, length), &mut image, &mut bytes);
-}
-
 fn main() {
     let mut script = [0u8; SCRIPT_ROOM];
-    lend(&mut script);
+    let length = io::read_full(STANDARD_INPUT, &mut script);
+    let mut image = [0u8; ROOM];
+    let mut bytes = [0u8; ROOM];
+    run_script(&script[..length], &mut image, &mut bytes);
 }

@@ -1,4 +1,4 @@
-// The arrays that the program lends. They are lent as arrays, so that no proof has to count their elements.
+// The arrays that the program lends, and parts of them. They are lent as arrays, so that no proof has to count their elements.
 
 // Room for the script.
 pub const SCRIPT_ROOM: usize = 65536;
