@@ -14,7 +14,7 @@ pub fn build(rt: &HostRuntime, keys: &[u8]) {
     build_in(rt, keys, &mut work, &mut out);
 }
 
-// Turns the arrays into slices, of which a part can be lent.
+// Turns the arrays into slices, of which a part can be lent; so no proof has to count their elements.
 fn build_in(
     rt: &HostRuntime,
     keys: &[u8],
@@ -56,7 +56,7 @@ pub fn keys(rt: &HostRuntime, text: &[u8]) {
     list_in(rt, text, &mut out);
 }
 
-// Turns the array into a slice, of which a part can be lent.
+// Turns the array into a slice, of which a part can be lent; so no proof has to count its elements.
 fn list_in(rt: &HostRuntime, text: &[u8], out: &mut [u8; LARGEST_FILE]) {
     list_into(rt, text, out);
 }

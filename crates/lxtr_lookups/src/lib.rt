@@ -14,7 +14,8 @@ use lxtr_spec::{Listing, MAX_LABELS};
 use lxtr_text::LINE_ROOM;
 pub use reasons::why;
 
-// Room for the completions of a prefix. It is lent as an array, so that no proof has to count its elements.
+// Room for the completions of a prefix. It is lent as an array, so that no proof has to count its elements (used where it is made, the
+// proof did not close).
 const LISTING_ROOM: usize = 2097152;
 
 pub fn check(image: &[u8]) {
