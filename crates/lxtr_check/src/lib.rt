@@ -4,7 +4,7 @@
 
 ghost use Rattle.std.specs.Prelude.{◌≡◌, ◌<◌, IfOk};
 ghost use Rattle.lxtr_spec.specs.Image.{slot_count};
-ghost use Rattle.lxtr_spec.specs.Refusals.{body_refusal, image_refusal, is_end, end_count, check_of};
+ghost use Rattle.lxtr_spec.specs.Refusals.{header_refusal, body_refusal, image_refusal, is_end, end_count, check_of};
 ghost use Rattle.lxtr_spec.specs.Answers.{refusal_of, answer_or};
 ghost use Rattle.lxtr_laws.specs.Facts.{Accepted};
 
@@ -56,6 +56,7 @@ impl<'a> Model for AcceptedImage<'a> {
 impl<'a> AcceptedImage<'a> {
     // The image, or the first of refusals 9 to 12 that holds.
     pub fn check(image: &Image<'a>) -> Result<Self, Refusal>
+        requires { header_refusal image.now ≡ 0 }
         ensures refusal { refusal_of result ≡ body_refusal image.now }
         ensures bytes { IfOk result (λ a. a ≡ image.now) }
     {

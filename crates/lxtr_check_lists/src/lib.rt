@@ -87,13 +87,14 @@ impl<'a> Model for Lists<'a> {
     ghost use Rattle.std.specs.Prelude.{List, ℕ, ◌≡◌, false};
     ghost use Rattle.lxtr_spec.specs.Ranges.{any_below};
     ghost use Rattle.lxtr_spec.specs.Image.{slot_count};
-    ghost use Rattle.lxtr_spec.specs.Refusals.{header_refusal, slots_wrong, offset_falls};
+    ghost use Rattle.lxtr_spec.specs.Refusals.{slots_wrong, offset_falls};
+    ghost use Rattle.lxtr_laws.specs.Passed.{Passed};
 
     ghost Value = { List ℕ };
 
     ghost view = { λ a. a.bytes.now };
 
-    ghost invariant = { λ a. (header_refusal a.bytes.now ≡ 0) × (slots_wrong a.bytes.now ≡ false) × (any_below (slot_count a.bytes.now) (offset_falls a.bytes.now) ≡ false) };
+    ghost invariant = { λ a. Passed a.bytes.now × (slots_wrong a.bytes.now ≡ false) × (any_below (slot_count a.bytes.now) (offset_falls a.bytes.now) ≡ false) };
 }
 
 impl<'a> Lists<'a> {
@@ -111,7 +112,6 @@ impl<'a> Lists<'a> {
     }
 
     // The image, and what is known of its slots and offsets.
-    #[tactic(auto, using(lxtr_laws::specs::Passed::header_passed))]
     pub fn image(&self) -> Image<'a>
         ensures value { result ≡ self.now }
         ensures passed { Passed self.now }

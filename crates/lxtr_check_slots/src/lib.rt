@@ -101,13 +101,14 @@ pub struct Slots<'a> {
 
 impl<'a> Model for Slots<'a> {
     ghost use Rattle.std.specs.Prelude.{List, ℕ, ◌≡◌, false};
-    ghost use Rattle.lxtr_spec.specs.Refusals.{header_refusal, slots_wrong};
+    ghost use Rattle.lxtr_spec.specs.Refusals.{slots_wrong};
+    ghost use Rattle.lxtr_laws.specs.Passed.{Passed};
 
     ghost Value = { List ℕ };
 
     ghost view = { λ a. a.bytes.now };
 
-    ghost invariant = { λ a. (header_refusal a.bytes.now ≡ 0) × (slots_wrong a.bytes.now ≡ false) };
+    ghost invariant = { λ a. Passed a.bytes.now × (slots_wrong a.bytes.now ≡ false) };
 }
 
 impl<'a> Slots<'a> {
@@ -124,7 +125,6 @@ impl<'a> Slots<'a> {
     }
 
     // The image, and what is known of its slots.
-    #[tactic(auto, using(lxtr_laws::specs::Passed::header_passed))]
     pub fn image(&self) -> Image<'a>
         ensures value { result ≡ self.now }
         ensures passed { Passed self.now }

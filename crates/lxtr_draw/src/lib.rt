@@ -2,11 +2,14 @@
 #![tactic(auto)]
 
 ghost use Rattle.std.specs.Prelude.{◌≡◌, ◌+◌, cond, ◌≤◌, ◌<◌};
-ghost use Rattle.lxtr_spec.specs.Image.{slot_count, child_count, has_leaf};
+ghost use Rattle.lxtr_spec.specs.Image.{slot_count, child_count, is_leaf, has_leaf, parent, base, value_number};
 ghost use Rattle.lxtr_command_spec.specs.Drawings.{colour, slot_line, step_line, entry_line, is_wrong_slot, is_wrong_entry, is_drawn, slot_text, step_text, list_of, entry_text};
+ghost use Rattle.lxtr_laws.specs.Passed.{Whole, Passed};
 ghost use Rattle.lxtr_text.specs.Appends.{Appended};
 
 use lxtr_image::Image;
+use lxtr_image::nodes::TOP_BIT;
+use lxtr_image::sections::{base_word_at, check_word_at, child_at};
 use lxtr_spec::Fault;
 use lxtr_text::forms::fill;
 
@@ -18,34 +21,70 @@ fn colour(wrong: bool) -> u32
     if wrong { 0xE00000 } else { 0x202020 }
 }
 
+// What a drawing says of a slot. It needs only that the bytes passed refusals 1 to 6, so an `Image` is not asked for.
+#[tactic(auto, unfolding(lxtr_spec::specs::Image::is_leaf))]
+fn is_leaf(image: &[u8], s: u32) -> bool
+    requires whole { Whole image.now }
+    requires s_bound { s < slot_count image.now }
+    ensures { result ≡ is_leaf image.now s }
+{
+    TOP_BIT <= base_word_at(image, s)
+}
+
+#[tactic(auto, unfolding(lxtr_spec::specs::Image::parent))]
+fn parent(image: &[u8], s: u32) -> u32
+    requires whole { Whole image.now }
+    requires s_bound { s < slot_count image.now }
+    ensures { result ≡ parent image.now s }
+{
+    check_word_at(image, s) % TOP_BIT
+}
+
+// The base, or the value of a leaf.
+#[tactic(auto, unfolding(lxtr_spec::specs::Image::base, lxtr_spec::specs::Image::value_number))]
+fn number(image: &[u8], s: u32) -> u32
+    requires whole { Whole image.now }
+    requires s_bound { s < slot_count image.now }
+    ensures base { result ≡ base image.now s }
+    ensures value { result ≡ value_number image.now s }
+{
+    base_word_at(image, s) % TOP_BIT
+}
+
 // How many borders a slot has: two if its prefix is a key, otherwise one.
-fn borders(image: &Image, s: u32) -> u32
-    requires { s < slot_count image.now }
+#[tactic(auto, unfolding(lxtr_spec::specs::Image::has_leaf))]
+fn borders(image: &[u8], s: u32) -> u32
+    requires whole { Whole image.now }
+    requires s_bound { s < slot_count image.now }
     ensures { result ≡ cond (has_leaf image.now s) 2 1 }
 {
-    if image.has_leaf(s) { 2 } else { 1 }
+    if TOP_BIT <= check_word_at(image, s) {
+        2
+    } else {
+        1
+    }
 }
 
 // Writes the line of a slot, with its base or value and its parent.
-fn slot_line(image: &Image, s: u32, wrong: bool, line: &mut [u8]) -> usize
-    requires { s < slot_count image.now }
+fn slot_line(image: &[u8], s: u32, wrong: bool, line: &mut [u8]) -> usize
+    requires whole { Whole image.now }
+    requires s_bound { s < slot_count image.now }
     ensures { Appended line.old 0 (slot_line image.now s wrong) line.new result }
 {
     let tint = colour(wrong);
-    let parent = image.parent(s);
-    if image.is_leaf(s) {
-        let value = image.value_number(s);
+    let parent = parent(image, s);
+    let number = number(image, s);
+    if is_leaf(image, s) {
         return fill(
             b"  s% [label=\"slot %\\nvalue %\\nparent %\", style=rounded, color=\"#$\", fontcolor=\"#$\"];\n",
-            &[s, s, value, parent, tint, tint],
+            &[s, s, number, parent, tint, tint],
             line,
         );
     }
-    let base = image.base(s);
     let count = borders(image, s);
     fill(
         b"  s% [label=\"slot %\\nbase %\\nparent %\", peripheries=%, color=\"#$\", fontcolor=\"#$\"];\n",
-        &[s, s, base, parent, count, tint, tint],
+        &[s, s, number, parent, count, tint, tint],
         line,
     )
 }
@@ -71,12 +110,13 @@ fn step_line(image: &Image, p: u32, s: u32, line: &mut [u8]) -> usize
 }
 
 // Writes the line of entry j of the children, in the list of slot p.
-fn entry_line(image: &Image, p: u32, j: u32, wrong: bool, line: &mut [u8]) -> usize
-    requires { j < child_count image.now }
+fn entry_line(image: &[u8], p: u32, j: u32, wrong: bool, line: &mut [u8]) -> usize
+    requires whole { Whole image.now }
+    requires j_bound { j < child_count image.now }
     ensures { Appended line.old 0 (entry_line image.now p j wrong) line.new result }
 {
     let tint = colour(wrong);
-    let child = image.child(j);
+    let child = child_at(image, j);
     fill(
         b"  s% -> s% [label=\"entry %\", style=dashed, constraint=false, color=\"#$\", fontcolor=\"#$\"];\n",
         &[p, child, j, tint, tint],
@@ -115,17 +155,19 @@ fn is_wrong_entry(fault: Option<Fault>, j: u32) -> bool
 
 // Whether slot s is drawn: it is slot 1, holds something or is at fault.
 #[tactic(auto, unfolding(lxtr_spec::specs::Refusals::both_zero, lxtr_command_spec::specs::Drawings::is_drawn))]
-fn is_drawn(image: &Image, fault: Option<Fault>, s: u32) -> bool
-    requires { s < slot_count image.now }
+fn is_drawn(image: &[u8], fault: Option<Fault>, s: u32) -> bool
+    requires whole { Whole image.now }
+    requires s_bound { s < slot_count image.now }
     ensures { result ≡ is_drawn image.now fault s }
 {
-    let empty = (image.base_word(s) == 0) & (image.check_word(s) == 0);
+    let empty = (base_word_at(image, s) == 0) & (check_word_at(image, s) == 0);
     (s == 1) | !empty | is_wrong_slot(fault, s)
 }
 
 // What is drawn of slot s itself, which may be nothing.
-pub fn slot_text(image: &Image, fault: Option<Fault>, s: u32, line: &mut [u8]) -> usize
-    requires { s < slot_count image.now }
+pub fn slot_text(image: &[u8], fault: Option<Fault>, s: u32, line: &mut [u8]) -> usize
+    requires whole { Whole image.now }
+    requires s_bound { s < slot_count image.now }
     ensures { Appended line.old 0 (slot_text image.now fault s) line.new result }
 {
     if !is_drawn(image, fault, s) {
@@ -134,9 +176,8 @@ pub fn slot_text(image: &Image, fault: Option<Fault>, s: u32, line: &mut [u8]) -
     slot_line(image, s, is_wrong_slot(fault, s), line)
 }
 
-// What is drawn of the step to slot s: nothing if its parent is 0 or not a slot. A slot with a parent holds something, so it is
-// drawn too.
-pub fn step_text(image: &Image, s: u32, line: &mut [u8]) -> usize
+// The step to slot s, if its parent is a slot other than 0.
+fn step_in(image: &Image, s: u32, line: &mut [u8]) -> usize
     requires { s < slot_count image.now }
     ensures { Appended line.old 0 (step_text image.now s) line.new result }
 {
@@ -150,9 +191,18 @@ pub fn step_text(image: &Image, s: u32, line: &mut [u8]) -> usize
     step_line(image, p, s, line)
 }
 
-// The first slot in whose list entry j lies. The search starts at slot `from`, which is not after it. It is the first slot whose
-// list ends after the entry, so only the ends of the lists are compared.
-pub fn list_of(image: &Image, from: u32, j: u32) -> u32
+// What is drawn of the step to slot s: nothing if its parent is 0 or not a slot. A slot with a parent holds something, so it is
+// drawn too.
+pub fn step_text(image: &[u8], s: u32, line: &mut [u8]) -> usize
+    requires passed { Passed image.now }
+    requires s_bound { s < slot_count image.now }
+    ensures { Appended line.old 0 (step_text image.now s) line.new result }
+{
+    step_in(&Image::new(image), s, line)
+}
+
+// The first slot from `from` on whose list ends after entry j.
+fn list_in(image: &Image, from: u32, j: u32) -> u32
     requires j_bound { j < child_count image.now }
     requires from_bound { from ≤ list_of image.now j }
     ensures value { result ≡ list_of image.now j }
@@ -165,8 +215,21 @@ pub fn list_of(image: &Image, from: u32, j: u32) -> u32
         .unwrap_or(slots)
 }
 
+// The first slot in whose list entry j lies. The search starts at slot `from`, which is not after it. It is the first slot whose
+// list ends after the entry, so only the ends of the lists are compared.
+pub fn list_of(image: &[u8], from: u32, j: u32) -> u32
+    requires passed { Passed image.now }
+    requires j_bound { j < child_count image.now }
+    requires from_bound { from ≤ list_of image.now j }
+    ensures value { result ≡ list_of image.now j }
+    ensures next { result ≤ list_of image.now (j + 1) }
+{
+    list_in(&Image::new(image), from, j)
+}
+
 // What is drawn of entry j of the children; p is the slot in whose list it lies.
-pub fn entry_text(image: &Image, fault: Option<Fault>, p: u32, j: u32, line: &mut [u8]) -> usize
+pub fn entry_text(image: &[u8], fault: Option<Fault>, p: u32, j: u32, line: &mut [u8]) -> usize
+    requires whole { Whole image.now }
     requires j_bound { j < child_count image.now }
     requires p_value { p ≡ list_of image.now j }
     ensures { Appended line.old 0 (entry_text image.now fault j) line.new result }

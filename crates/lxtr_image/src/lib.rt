@@ -12,7 +12,6 @@ mod code_map; // the listed labels, and the code of a label
 ghost use Rattle.std.specs.Prelude.{◌≡◌, ◌+◌, ◌≤◌, ◌<◌};
 ghost use Rattle.lxtr_spec.specs.Labels.{min_slots, max_slots};
 ghost use Rattle.lxtr_spec.specs.Image.{slot_count, child_count};
-ghost use Rattle.lxtr_spec.specs.Refusals.{header_refusal};
 ghost use Rattle.lxtr_laws.specs.Passed.{Passed};
 
 use std::marker::Model;
@@ -24,21 +23,19 @@ pub struct Image<'a> {
 }
 
 impl<'a> Model for Image<'a> {
-    ghost use Rattle.std.specs.Prelude.{List, ℕ, ◌≡◌};
-    ghost use Rattle.lxtr_spec.specs.Refusals.{header_refusal};
+    ghost use Rattle.std.specs.Prelude.{List, ℕ};
     ghost use Rattle.lxtr_laws.specs.Passed.{Passed};
 
     ghost Value = { List ℕ };
 
     ghost view = { λ a. a.bytes.now };
 
-    ghost invariant = { λ a. (header_refusal a.bytes.now ≡ 0) × Passed a.bytes.now };
+    ghost invariant = { λ a. Passed a.bytes.now };
 }
 
 impl<'a> Image<'a> {
-    #[tactic(auto, using(lxtr_laws::specs::Passed::header_passed))]
     pub fn new(bytes: &'a [u8]) -> Self
-        requires { header_refusal bytes.now ≡ 0 }
+        requires { Passed bytes.now }
         ensures { result ≡ bytes.now }
     {
         Image { bytes }
@@ -47,7 +44,6 @@ impl<'a> Image<'a> {
     // The bytes, and what is known of them.
     pub fn bytes(&self) -> &'a [u8]
         ensures value { result.now ≡ self.now }
-        ensures header { header_refusal self.now ≡ 0 }
         ensures passed { Passed self.now }
     {
         self.bytes

@@ -3,8 +3,7 @@ ghost use Rattle.std.specs.Prelude.{◌≡◌, ◌<◌, ◌≤◌};
 ghost use Rattle.lxtr_spec.specs.Image.{slot_count, child_count, offset, child, list_width};
 
 use crate::Image;
-use crate::sections::{children_at, offset_at};
-use lxtr_bytes::numbers::le32_at;
+use crate::sections::{child_at, offset_at};
 
 impl<'a> Image<'a> {
     pub fn offset(&self, p: u32) -> u32
@@ -14,12 +13,11 @@ impl<'a> Image<'a> {
         offset_at(self.bytes, p)
     }
 
-    #[tactic(auto, unfolding(lxtr_spec::specs::Image::child))]
     pub fn child(&self, j: u32) -> u32
         requires { j < child_count self.now }
         ensures { result ≡ child self.now j }
     {
-        le32_at(self.bytes, children_at(self.bytes) + 4 * j as usize)
+        child_at(self.bytes, j)
     }
 
     // The width of the list of slot p; 0 if its offsets fall.

@@ -4,27 +4,24 @@ ghost use Rattle.lxtr_spec.specs.Image.{slot_count, base_word, check_word, is_le
 
 use crate::Image;
 use crate::joining::{code_under, slot_under};
-use crate::sections::HEADER_LENGTH;
-use lxtr_bytes::numbers::le32_at;
+use crate::sections::{base_word_at, check_word_at};
 
 // IS_LEAF in the base word, HAS_LEAF in the check word.
 pub const TOP_BIT: u32 = 0x8000_0000;
 
 impl<'a> Image<'a> {
-    #[tactic(auto, unfolding(lxtr_spec::specs::Image::base_word))]
     pub fn base_word(&self, s: u32) -> u32
         requires { s < slot_count self.now }
         ensures { result ≡ base_word self.now s }
     {
-        le32_at(self.bytes, HEADER_LENGTH + 8 * s as usize)
+        base_word_at(self.bytes, s)
     }
 
-    #[tactic(auto, unfolding(lxtr_spec::specs::Image::check_word))]
     pub fn check_word(&self, s: u32) -> u32
         requires { s < slot_count self.now }
         ensures { result ≡ check_word self.now s }
     {
-        le32_at(self.bytes, HEADER_LENGTH + 8 * s as usize + 4)
+        check_word_at(self.bytes, s)
     }
 
     #[tactic(auto, unfolding(lxtr_spec::specs::Image::is_leaf))]

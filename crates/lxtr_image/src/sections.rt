@@ -1,7 +1,8 @@
-// The three numbers of the header, where each part of the image starts, and what refusals 7 and 8 read. The header's tests call these
-// one after the other: each needs only what the tests before it leave, so there is no type for what is known in between.
-ghost use Rattle.std.specs.Prelude.{◌≡◌, ◌≤◌, length};
-ghost use Rattle.lxtr_spec.specs.Image.{header_length, slot_count, child_count, map_length, offsets_at, children_at, map_at, offset, map_version, label_count};
+// The three numbers of the header, where each part of the image starts, and reading the parts of bytes of which less is known than of an
+// `Image`. The header's tests call these one after the other, and a drawing reads slots and entries by them: each needs only what it
+// says, so there is no type for what is known in between.
+ghost use Rattle.std.specs.Prelude.{◌≡◌, ◌<◌, ◌≤◌, length};
+ghost use Rattle.lxtr_spec.specs.Image.{header_length, slot_count, child_count, map_length, offsets_at, children_at, map_at, base_word, check_word, offset, child, map_version, label_count};
 ghost use Rattle.lxtr_laws.specs.Passed.{Sized, Whole};
 
 use lxtr_bytes::heads::{count_at, version_at};
@@ -57,6 +58,25 @@ pub fn map_at(image: &[u8]) -> usize
     children_at(image) + 4 * child_count(image) as usize
 }
 
+// The two words of slot s.
+#[tactic(auto, unfolding(lxtr_spec::specs::Image::base_word))]
+pub fn base_word_at(image: &[u8], s: u32) -> u32
+    requires whole { Whole image.now }
+    requires s_bound { s < slot_count image.now }
+    ensures { result ≡ base_word image.now s }
+{
+    le32_at(image, HEADER_LENGTH + 8 * s as usize)
+}
+
+#[tactic(auto, unfolding(lxtr_spec::specs::Image::check_word))]
+pub fn check_word_at(image: &[u8], s: u32) -> u32
+    requires whole { Whole image.now }
+    requires s_bound { s < slot_count image.now }
+    ensures { result ≡ check_word image.now s }
+{
+    le32_at(image, HEADER_LENGTH + 8 * s as usize + 4)
+}
+
 // Offset p, where the list of slot p starts.
 #[tactic(auto, unfolding(lxtr_spec::specs::Image::offset))]
 pub fn offset_at(image: &[u8], p: u32) -> u32
@@ -65,6 +85,16 @@ pub fn offset_at(image: &[u8], p: u32) -> u32
     ensures { result ≡ offset image.now p }
 {
     le32_at(image, offsets_at(image) + 4 * p as usize)
+}
+
+// Entry j of the children.
+#[tactic(auto, unfolding(lxtr_spec::specs::Image::child))]
+pub fn child_at(image: &[u8], j: u32) -> u32
+    requires whole { Whole image.now }
+    requires j_bound { j < child_count image.now }
+    ensures { result ≡ child image.now j }
+{
+    le32_at(image, children_at(image) + 4 * j as usize)
 }
 
 #[tactic(auto, unfolding(lxtr_spec::specs::Image::map_version))]

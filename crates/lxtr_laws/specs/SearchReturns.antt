@@ -42,9 +42,12 @@ module _ (b q : List ℕ) (r : ℕ) where
     search_allowed z h = sym ((none_first (header_refusal b) (query_refusal q)).1 (sym header ∙ z, (query_passes q).1 h))
 
   module _ (known : r ≡ search_refusal b q) where
-    pub search_passed : r ≡ 0 → Passed b
+    pub header_passes : r ≡ 0 → header_refusal b ≡ 0
     unfolding search_refusal
-    search_passed z = header_passed ((none_first (header_refusal b) (query_refusal q)).0 (sym known ∙ z)).0
+    header_passes z = ((none_first (header_refusal b) (query_refusal q)).0 (sym known ∙ z)).0
+
+    pub search_passed : r ≡ 0 → Passed b
+    search_passed z = header_passed (header_passes z)
 
     -- the answers after a refusal
     module _ (h : r ≡ 0 → ⊥) where

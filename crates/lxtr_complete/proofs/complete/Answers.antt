@@ -2,7 +2,7 @@
 use Rattle.std.proofs.Common.{refl, arith, ◌∙◌}
 use Rattle.lxtr_spec.specs.Completions.{completion_answer}
 use Rattle.lxtr_laws.specs.Failures.{number_not_0}
-use Rattle.lxtr_laws.specs.SearchReturns.{passed_err}
+use Rattle.lxtr_laws.specs.SearchReturns.{passed_err, header_passes}
 use Rattle.lxtr_complete.specs.Completing.{search_stands, body_stands, room_refused, completion_allowed, completion_refused, completion_passed}
 use Rattle.lxtr_complete.proofs.complete.Goals as goal
 
@@ -30,3 +30,6 @@ returns c =
     let k = rw c.in_ok-opened.ensures.bytes at c.in_ok-accepted.ensures.refusal in
     let b = c.in_ok-accepted.ensures.bytes ∙ c.in_ok-opened.ensures.bytes in
     completion_passed _ _ _ _ (completion_allowed _ _ _ _ c.in_ok-opened.ensures.refusal _ refl k refl c.if-room-lt-HEAD_LENGTH.false) _ refl (rw b at c.list_pairs.ensures)
+
+pub check-requires : goal.check-requires
+check-requires c = rw c.in_ok-opened.ensures.bytes (header_passes _ _ _ c.in_ok-opened.ensures.refusal refl)

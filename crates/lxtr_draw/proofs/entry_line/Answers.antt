@@ -5,4 +5,4 @@ use Rattle.lxtr_draw.proofs.entry_line.Goals as goal
 
 pub returns : goal.returns
 unfolding ascii_from ascii
-returns c = entry_put _ _ _ _ _ _ c.colour-tint.ensures c.child-child.ensures _ _ _ c.fill.ensures
+returns c = entry_put _ _ _ _ _ _ c.colour-tint.ensures c.child_at-child.ensures _ _ _ c.fill.ensures

@@ -5,8 +5,8 @@ use Rattle.lxtr_draw.proofs.slot_line.Goals as goal
 
 pub returns-then-is_leaf : goal.returns-then-is_leaf
 unfolding ascii_from ascii
-returns-then-is_leaf c = end_line _ _ _ _ _ c.parent-parent.ensures c.colour-tint.ensures _ c.is_leaf.ensures _ _ _ c.if-is_leaf.true _ c.value_number-value.ensures c.fill.ensures
+returns-then-is_leaf c = end_line _ _ _ _ _ c.parent-parent.ensures c.colour-tint.ensures _ c.is_leaf.ensures _ _ _ c.if-is_leaf.true _ c.number-number.ensures.value c.fill.ensures
 
 pub returns : goal.returns
 unfolding ascii_from ascii
-returns c = inner_line _ _ _ _ _ c.parent-parent.ensures c.colour-tint.ensures _ c.is_leaf.ensures _ _ _ c.if-is_leaf.false _ c.base-base.ensures _ c.borders-count.ensures c.fill-2.ensures
+returns c = inner_line _ _ _ _ _ c.parent-parent.ensures c.colour-tint.ensures _ c.is_leaf.ensures _ _ _ c.if-is_leaf.false _ c.number-number.ensures.base _ c.borders-count.ensures c.fill-2.ensures

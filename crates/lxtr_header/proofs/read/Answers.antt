@@ -5,7 +5,7 @@ use Rattle.lxtr_spec.specs.Refusals.{too_short, header_refusal}
 use Rattle.lxtr_spec.specs.Answers.{number}
 use Rattle.lxtr_laws.specs.Failures.{passed_on}
 use Rattle.lxtr_laws.specs.RefusalChains.{refused, goes_on, chain}
-use Rattle.lxtr_laws.specs.Passed.{sized_by}
+use Rattle.lxtr_laws.specs.Passed.{sized_by, header_passed}
 use Rattle.lxtr_header.proofs.read.Goals as goal
 
 pub returns-then-image-lt-HEADER_LENGTH-clause-refusal : goal.returns-then-image-lt-HEADER_LENGTH-clause-refusal
@@ -40,7 +40,13 @@ unfolding header_refusal too_short
 new-requires c =
     let e = c.in_ok-check_parts.ensures in
     let all : 0 ≡ header_refusal c.args.image.now = search (e, chain, goes_on, le-ltb) in
-    sym all
+    header_passed (sym all)
 
 pub check_parts-requires : goal.check_parts-requires
 check_parts-requires c = sized_by _ (omega arith) c.sizes_wrong.ensures c.if-sizes_wrong.false
+
+pub returns-clause-refusal : goal.returns-clause-refusal
+unfolding header_refusal too_short
+returns-clause-refusal c =
+    let e = c.in_ok-check_parts.ensures in
+    search (e, chain, goes_on, le-ltb)

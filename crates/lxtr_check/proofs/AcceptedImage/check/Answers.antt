@@ -3,4 +3,4 @@ use Rattle.lxtr_check.specs.Checks.{none_refused_by}
 use Rattle.lxtr_check.proofs.AcceptedImage.check.Goals as goal
 
 pub invariant_of-result : goal.invariant_of-result
-invariant_of-result c = rw c.bytes.ensures.value (none_refused_by _ c.bytes.ensures.header c.in_ok-check_body.ensures)
+invariant_of-result c = rw c.bytes.ensures.value (none_refused_by _ c.requires c.in_ok-check_body.ensures)

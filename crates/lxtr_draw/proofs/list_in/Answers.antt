@@ -3,7 +3,7 @@ use Rattle.std.proofs.lemmas.Iterator.{first_from_Range}
 use Rattle.lxtr_spec.specs.Image.{offset}
 use Rattle.lxtr_command_spec.specs.Drawings.{list_of}
 use Rattle.lxtr_draw.specs.EntryLists.{list_found, list_on}
-use Rattle.lxtr_draw.proofs.list_of.Goals as goal
+use Rattle.lxtr_draw.proofs.list_in.Goals as goal
 
 pub returns : goal.returns
 returns c =
