@@ -17,9 +17,9 @@ fn draw_slot(image: &Image, fault: Option<Fault>, s: u32)
     requires { s < slot_count image.now }
 {
     let mut line = [0u8; LINE_ROOM];
-    let length = slot_text(image, fault, s, &mut line);
+    let length = slot_text(image.bytes(), fault, s, &mut line);
     print(&line[..length]);
-    let size = step_text(image, s, &mut line);
+    let size = step_text(image.bytes(), s, &mut line);
     print(&line[..size]);
 }
 
@@ -35,7 +35,7 @@ fn draw_entry(image: &Image, fault: Option<Fault>, p: u32, j: u32)
     requires p_value { p ≡ list_of image.now j }
 {
     let mut line = [0u8; LINE_ROOM];
-    let length = entry_text(image, fault, p, j, &mut line);
+    let length = entry_text(image.bytes(), fault, p, j, &mut line);
     print(&line[..length]);
 }
 
@@ -43,7 +43,7 @@ fn draw_entry(image: &Image, fault: Option<Fault>, p: u32, j: u32)
 fn draw_entries(image: &Image, fault: Option<Fault>) {
     let mut p: u32 = 0;
     for j in 0..image.child_count() {
-        p = list_of(image, p, j);
+        p = list_of(image.bytes(), p, j);
         draw_entry(image, fault, p, j);
     }
 }
