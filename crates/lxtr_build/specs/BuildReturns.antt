@@ -1,7 +1,7 @@
 -- The answers of the builder's functions, and the outcomes that they stand for: from the refusals of the list to the image.
 use Prim.Native.Nat.{ℕ, zero, suc, ◌≤◌, ◌<◌}
 use Rattle.std.proofs.Common.{arith, ap, ◌∙◌, subst, lt-ltb, le-ltb}
-use Rattle.std.specs.Prelude.{◌≡◌, refl, List, Bool, true, false, take, replicate, Option, Some, None, Result, Ok, Err}
+use Rattle.std.specs.Prelude.{◌≡◌, refl, List, replicate, Option, Some, None, Result, Err}
 use Rattle.std.proofs.Math.Path.{sym}
 use Rattle.std.proofs.Math.ListN.{length}
 use Rattle.lxtr_spec.specs.Labels.{max_listed, Pair}
@@ -9,7 +9,7 @@ use Rattle.lxtr_spec.specs.KeyLists.{list_refusal, pairs_of}
 use Rattle.lxtr_spec.specs.CodeMaps.{map_of}
 use Rattle.lxtr_spec.specs.Builds.{image_in, slots_used, slots_in, placed_in, Outcome, refuses, with_room, from_placed, from_labels, from_keys, outcome_of, answered, work_after, build_of}
 use Rattle.lxtr_spec.specs.declared.refusals.Refusal.{Refusal}
-use Rattle.lxtr_spec.specs.declared.refusals.Refusal.TheVariants.{TooManyLabels, WorkTooSmall, TooFewSlots}
+use Rattle.lxtr_spec.specs.declared.refusals.Refusal.TheVariants.{TooManyLabels, TooFewSlots}
 use Rattle.lxtr_spec.specs.Answers.{refusal_of, answer_or, number}
 use Rattle.lxtr_laws.specs.Failures.{number_not_0}
 use Rattle.lxtr_build_laws.specs.KeyListFacts.{KeysPassed}

@@ -66,9 +66,6 @@ pub record KeyCounting (key labels counts₀ counts : List ℕ) (j : ℕ) : Type
   pub size : length counts ≡ length counts₀
   pub left : (i : ℕ) → i < length labels → get_or counts i 0 + occurrences (drop j key) (get_or labels i 0) ≡ get_or counts₀ i 0 + occurrences key (get_or labels i 0)
 
-pub key_start : (b : List ℕ) (at : ℕ) (labels counts : List ℕ) → KeyCounting (key_at b at) labels counts counts 0
-key_start b at labels counts = record { size = refl; left = λ i h. refl }
-
 module _ (b : List ℕ) (at : ℕ) (labels c₀ : List ℕ) (rising : Rising labels) (able : Countable (key_at b at) labels c₀) where
   module _ (j len x : ℕ) (h : j < len) (size : len ≡ key_length b at) (is : x ≡ key_label b at j) (c : List ℕ) (so_far : KeyCounting (key_at b at) labels c₀ c j) where
     abbrev place : ℕ

@@ -69,9 +69,6 @@ pub record NoBaseSoFar (m cs : List ℕ) (k₀ k : ℕ) : Type 0 where
   pub none : NoneFrom (all_under m cs) (word_bits * k₀) (word_bits * k)
 
 module _ (m cs : List ℕ) (k₀ : ℕ) where
-  pub blocks_start : NoBaseSoFar m cs k₀ k₀
-  blocks_start = record { from = omega arith; none = record { none = λ j h l. absurd (omega arith) } }
-
   module _ (k : ℕ) (s : NoBaseSoFar m cs k₀ k) where
     module _ (x : ℕ) (word : BitsOf (all_under m cs) (word_bits * k) word_bits x) where
       pub blocks_found : k < base_count / word_bits → x ≢ 0 → FirstOf (all_under m cs) (word_bits * k₀) base_count (Some (word_bits * k + count_trailing_zeros word_bits x))

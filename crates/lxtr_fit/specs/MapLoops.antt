@@ -1,16 +1,13 @@
 -- The functions of the map of free slots, turn by turn.
 use Rattle.std.specs.Prelude.{ℕ, zero, suc, ◌+◌, ◌*◌, ◌-◌, ◌/◌, ◌%◌, ◌^◌, ◌≤◌, ◌<◌, min, ◌≡◌, refl, ◌≢◌, Bool, true, false, ◌&&◌, Some, None}
 use Rattle.std.proofs.Math.Path.{sym, ap, ap₂}
-use Rattle.std.proofs.Common.{◌∙◌, subst, one-mul, Fits, length-set, pow_pos, shl_exact, get_or-set_same, get_or-set_other}
+use Rattle.std.proofs.Common.{◌∙◌, subst, one-mul, length-set, pow_pos, shl_exact, get_or-set_same, get_or-set_other}
 use mathlib.Core.List.{List}
 use Rattle.std.proofs.Math.Bool.{not, and-true}
 use Rattle.std.proofs.Math.Decide.{dec_lt, ℕ_discrete}
 use native.Mathlib.Omega.{arith}
 use Rattle.std.specs.Int.Bits.{bit_and}
 use Rattle.std.specs.Int.Count.{count_trailing_zeros}
-use Rattle.std.proofs.lemmas.Nat.{trailing_le}
-use Rattle.std.specs.Int.{w32}
-use borrow.Author.Rules.{Fits-under}
 use Rattle.std.proofs.Math.Dec.{leb, ltb, eqb}
 use Rattle.std.proofs.Math.ListN.{get_or, length, set}
 use Rattle.std.proofs.Math.Pow.{shr_lt}
@@ -24,7 +21,7 @@ use Rattle.lxtr_laws.specs.Firsts.{NoneFrom, FirstOf}
 use Rattle.lxtr_laws.specs.WordSearch.{word_passed, word_hit, bit_past}
 use Rattle.lxtr_build_laws.specs.Work.{Cleared}
 use Rattle.lxtr_build_laws.specs.SlotWords.{zeros_check}
-use Rattle.lxtr_build_laws.specs.SlotLoops.{SlotsBelow, StepsSoFar, steps_next}
+use Rattle.lxtr_build_laws.specs.SlotLoops.{StepsSoFar, steps_next}
 use Rattle.lxtr_fit.specs.FreeMaps.{map_words, FreeMap, taken_in, taken_by}
 use Rattle.lxtr_fit.specs.TakenSlots.{taken_size, taken_bit}
 
@@ -42,9 +39,6 @@ module _ (t : ℕ) (m : List ℕ) where
 -- ---- the slots of the first j codes are taken
 
 module _ (b : ℕ) (cs m₀ m : List ℕ) (j : ℕ) (s : StepsSoFar (taken_by b) cs m₀ m j) (t : ℕ) (h : j < length cs) (at : t ≡ slot_under b (get_or cs j 0)) where
-  pub taking_inside : SlotsBelow (word_bits * length m₀) b cs → t / word_bits < length m
-  taking_inside i = rw at (omega (arith, i.each j h, s.size))
-
   pub taking_next : (u : List ℕ) → u ≡ taken_in t m → StepsSoFar (taken_by b) cs m₀ u (j + 1)
   unfolding taken_by
   taking_next u e = steps_next (taken_by b) cs m₀ m j s u h (rw at at e) (taken_size (slot_under b (get_or cs j 0)) m)
@@ -83,12 +77,6 @@ module _ (S : ℕ) where
   setting_start m e = record { size = e; words = λ k h. absurd (omega arith) }
 
   module _ (m : List ℕ) (i : ℕ) (s : SetSoFar S m i) where
-    pub setting_inside : i < length m → i < map_words
-    setting_inside h = omega (arith, s.size)
-
-    pub setting_less : i < length m → map_words - (i + 1) < map_words - i
-    setting_less h = omega (arith, s.size)
-
     pub setting_next : (x : ℕ) → i < length m → x ≡ 2 ^ min word_bits (S - word_bits * i) - 1 → SetSoFar S (set m i x) (i + 1)
     setting_next x h e = record { size = length-set m i x ∙ s.size; words = λ k l. go k l (ℕ_discrete k i) }
       where
@@ -120,10 +108,6 @@ module _ (S : ℕ) where
             ∙ from_2 t (ltb t S) ∙ sym (and-true (leb 2 t && ltb t S)) ∙ ap (λ (x : ℕ). leb 2 t && ltb t S && eqb x 0) (sym (ap (λ (l : List ℕ). check_at l t) clear.zeros ∙ zeros_check (length w) t));
         none_below = record { none = λ j i k. absurd (omega arith) };
       }
-
--- the number of a slot or a base plus the place of a bit fits
-pub bit_fits : (a x : ℕ) → a < max_slots → Fits w32 (a + count_trailing_zeros word_bits x)
-bit_fits a x h = Fits-under w32 (a + count_trailing_zeros word_bits x) (2 ^ 32) (omega (arith, trailing_le word_bits x)) tt
 
 -- ---- the search for a free slot: none is free from i up to `at`
 
@@ -162,9 +146,6 @@ module _ (m : List ℕ) (i : ℕ) where
       search_next z =
           let e : at + (word_bits - at % word_bits) ≡ at / word_bits * word_bits + word_bits = omega arith in
           record { small = omega arith; from = omega (arith, s.from); none = subst (NoneFrom (slot_bit m) i) e (word_passed (slot_bit m) i at (word_bits - at % word_bits) x s.none word z) }
-
-    pub search_less : at / word_bits < length m → max_slots - (at / word_bits * word_bits + word_bits) < max_slots - at
-    search_less h = omega arith
 
     pub search_none : length m ≤ at / word_bits → FirstOf (slot_bit m) i max_slots None
     unfolding FirstOf

@@ -84,8 +84,5 @@ module _ (S p v : ℕ) (cs w m : List ℕ) (l b : ℕ) (ready : Ready S w p) (fr
 -- ---- a map under other names, and the lengths of two maps
 
 module _ {S : ℕ} {w m : List ℕ} {l : ℕ} (f : FreeMap S w m l) where
-  pub map_as : {w' m' : List ℕ} {l' : ℕ} → w' ≡ w → m' ≡ m → l' ≡ l → FreeMap S w' m' l'
-  map_as e q r = rw (e, q, r) f
-
   pub map_size : {T : ℕ} {u n : List ℕ} {k : ℕ} → FreeMap T u n k → length m ≡ length n
   map_size g = f.size ∙ sym g.size

@@ -4,7 +4,6 @@ use Rattle.std.proofs.Math.Path.{refl, sym, ap}
 use Rattle.std.proofs.Common.{◌∙◌}
 use mathlib.Core.List.{List, [], ◌∷◌}
 use Rattle.std.proofs.Math.Bool.{or-false}
-use Rattle.std.proofs.Math.Nat.{sub-zero}
 use native.Mathlib.Omega.{arith}
 use Rattle.std.proofs.Math.Decide.{dec_lt}
 use borrow.Author.Tests.{lt-ltb, le-ltb, le-leb, lt-leb, eq-eqb, ne_eqb}
@@ -28,9 +27,6 @@ pub record Comparing (b b' : List ℕ) (before at m j : ℕ) : Type 0 where
   pub rest : comes_before (key_at b before) (key_at b' at) ≡ comes_before (drop j (key_at b before)) (drop j (key_at b' at))
 
 module _ (b b' : List ℕ) (before at m n : ℕ) where
-  pub compare_start : Comparing b b' before at m 0
-  compare_start = record { to = omega arith; rest = refl }
-
   module _ (j : ℕ) (so_far : Comparing b b' before at m j) (size-before : m ≡ key_length b before) (size-at : n ≡ key_length b' at) where
     -- the first key has no more labels: it is a prefix of the other, and comes before it if that one is longer
     pub compare_end : m ≤ j → ltb m n ≡ comes_before (key_at b before) (key_at b' at)
@@ -120,9 +116,6 @@ pub record RestDecides (b : List ℕ) (n i before at : ℕ) : Type 0 where
   pub to : i ≤ n
   pub rest : keys_refusal b n 0 0 keys_at ≡ keys_refusal b (n - i) i before at
 
-pub keys_start : (b : List ℕ) (n : ℕ) → RestDecides b n 0 0 keys_at
-keys_start b n = record { to = omega arith; rest = rw sub-zero refl }
-
 module _ (b : List ℕ) (n i before at : ℕ) (g : RestDecides b n i before at) where
   module _ (r : ℕ) (h : i < n) (is : r ≡ key_refusal b i before at) where
     one_more_lem : keys_refusal b n 0 0 keys_at ≡ first_refusal (key_refusal b i before at) (keys_refusal b (n - (i + 1)) (i + 1) at (next_key b at))
@@ -135,9 +128,6 @@ module _ (b : List ℕ) (n i before at : ℕ) (g : RestDecides b n i before at) 
     module _ (none : r ≡ 0) where
       passed : KeyPassed b i before at
       passed = key_passed b i before at (sym is ∙ none)
-
-      pub key_there : at < length b
-      key_there = passed.whole.starts
 
       pub keys_next : (at' : ℕ) → at' ≡ next_key b at → RestDecides b n (i + 1) at at'
       unfolding first_refusal

@@ -1,7 +1,7 @@
 -- All keys are below slot 1: their group may be placed in cleared work, and placing it is what the definitions say of the key list.
 use Rattle.std.specs.Prelude.{ℕ, zero, suc, ◌+◌, ◌*◌, ◌-◌, ◌^◌, ◌≤◌, ◌<◌, ◌≡◌, refl, List, ◌∷◌, get_or, length, set, Option}
 use Rattle.std.proofs.Math.Path.{sym, ap}
-use Rattle.std.proofs.Common.{◌∙◌, subst, zero-add, arith, Fits, length-set, get_or-set_same, get_or-set_other}
+use Rattle.std.proofs.Common.{◌∙◌, zero-add, arith, Fits, length-set, get_or-set_same, get_or-set_other}
 use Rattle.std.proofs.Math.Nat.{sub-zero}
 use Rattle.std.proofs.Math.Decide.{ℕ_discrete}
 use Rattle.std.specs.Int.{w32}
@@ -99,12 +99,6 @@ module _ (b starts₀ : List ℕ) (k : KeysPassed b) where
 
     pub starting_starts : (n : ℕ) → n ≡ key_count b → i < n → at < length b
     starting_starts n c h = key_starts b (key_count b) i at (omega arith) s.whole
-
-    pub starting_end : (n : ℕ) → n ≡ key_count b → n ≤ i → key_count b < length starts₀ → StartsPut b (set starts i at) (key_count b + 1)
-    starting_end n c h long = let e : i ≡ key_count b = omega (arith, s.passed) in subst (λ (m : ℕ). StartsPut b (set starts i at) (m + 1)) e (put_more (starting_inside long))
-
-pub starts_enough : (b starts : List ℕ) → KeysPassed b → length starts ≡ max_keys + 1 → key_count b < length starts
-starts_enough b starts k l = omega (arith, k.few)
 
 -- the lent table has the start of each key
 pub all_indexed : (b starts : List ℕ) (n : ℕ) → KeysPassed b → n ≡ key_count b → StartsPut b starts (key_count b + 1) → length starts ≡ max_keys + 1 → Indexed b starts (all n)

@@ -168,17 +168,8 @@ pub record Searching (b : List ℕ) (g : Group) (x low high : ℕ) : Type 0 wher
 
 -- where key i starts
 module _ (b starts : List ℕ) (g : Group) (s : Indexed b starts g) (w : Grouped b g) (i : ℕ) (h : i ≤ g.count) where
-  pub start_sum : Fits w64 (g.first + i)
-  start_sum = Fits-under w64 (g.first + i) (2 ^ 32) (omega (arith, w.values)) tt
-
   pub start_fits : Fits w64 ((g.first + i) * 4)
   start_fits = Fits-under w64 ((g.first + i) * 4) (2 ^ 32) (omega (arith, w.values)) tt
-
-  pub start_inside : g.first + i < length starts
-  start_inside = omega (arith, s.inside)
-
-  pub start_is : (a : ℕ) → a ≡ get_or starts (g.first + i) 0 → a ≡ place_of b i g.at
-  start_is a e = e ∙ s.each i h
 
 -- the low-th key is the first that is not under x
 pub record Skipped (b : List ℕ) (g : Group) (x low : ℕ) : Type 0 where

@@ -2,7 +2,7 @@
 use Prim.Native.Nat.{ℕ, zero, suc, ◌+◌, ◌*◌, ◌/◌, ◌^◌, ◌%◌, ◌≤◌, ◌<◌}
 use Rattle.std.specs.Prelude.{◌≡◌, ◌≢◌, get_or, length, Option, Some, None}
 use Rattle.std.proofs.Math.Path.{refl, sym, ap}
-use Rattle.std.proofs.Common.{◌∙◌, subst, arith}
+use Rattle.std.proofs.Common.{◌∙◌, arith}
 use mathlib.Core.List.{List, [], ◌∷◌}
 use Rattle.std.proofs.Math.ListN.{set}
 use Rattle.lxtr_spec.specs.Labels.{max_slots}
@@ -12,7 +12,7 @@ use Rattle.lxtr_laws.specs.Members.{member_at}
 use Rattle.lxtr_build_laws.specs.SlotWords.{check_of_base}
 use Rattle.lxtr_build_laws.specs.PlacingSteps.{Ready}
 use Rattle.lxtr_build_laws.specs.FirstFit.{first_fit_some, AllFree, fits_free}
-use Rattle.lxtr_build_laws.specs.SettledSlots.{put_child_size, put_parent_size}
+use Rattle.lxtr_build_laws.specs.SettledSlots.{put_child_size}
 use Rattle.lxtr_build_laws.specs.SlotLoops.{SlotsBelow, each_step, StepsSoFar, steps_next, steps_end, children_each}
 use Rattle.lxtr_fit.specs.FreeMaps.{FreeMap, taken_by}
 use Rattle.lxtr_fit.specs.TakenSlots.{settled_map}
@@ -70,13 +70,6 @@ module _ (p v b : ℕ) (cs w₀ w : List ℕ) (j : ℕ) (s : StepsSoFar (put_chi
 
 -- ---- a slot's own words and all children's
 
-pub put_both : (p v b : ℕ) (cs w x u : List ℕ) → x ≡ put_parent p b cs w → u ≡ put_children p v b cs x → u ≡ put_children p v b cs (put_parent p b cs w)
-put_both p v b cs w x u e q = q ∙ ap (put_children p v b cs) e
-
--- the words of the children are inside also after the slot's own are stored
-pub inside_after : (p b : ℕ) (cs w u : List ℕ) → SlotsBelow (length w / 2) b cs → u ≡ put_parent p b cs w → SlotsBelow (length u / 2) b cs
-inside_after p b cs w u i e = subst (λ (n : ℕ). SlotsBelow (n / 2) b cs) (sym (ap length e ∙ put_parent_size p b cs w)) i
-
 -- ---- settling
 
 module _ (S p v : ℕ) (cs w : List ℕ) (r : Option ℕ) (answer : r ≡ first_fit S w cs) where
@@ -113,7 +106,3 @@ module _ (S p v : ℕ) (cs w : List ℕ) (r : Option ℕ) (answer : r ≡ first_
     settle_base u e =
         ap (λ (y : List ℕ). Some (b, y)) e
         ∙ sym (ap (λ (o : Option ℕ). elim o as (λ _. Option (ℕ × List ℕ)) [ None ↦ None | Some b ↦ Some (b, put_children p v b cs (put_parent p b cs w)) ]) fit)
-
--- with the codes and the value under other names
-pub settle_as : (S p v v' : ℕ) (cs cs' w : List ℕ) (o : Option (ℕ × List ℕ)) → v ≡ v' → cs ≡ cs' → o ≡ settle S p v cs w → o ≡ settle S p v' cs' w
-settle_as S p v v' cs cs' w o e f q = q ∙ rw (e, f) refl

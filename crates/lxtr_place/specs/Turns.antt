@@ -17,7 +17,7 @@ use Rattle.lxtr_build_laws.specs.Work.{placed_as}
 use Rattle.lxtr_build_laws.specs.Groups.{CodesIn}
 use Rattle.lxtr_build_laws.specs.ChildCodes.{codes_rise, codes_small, codes_few}
 use Rattle.lxtr_build_laws.specs.PlacingSteps.{Step, step_none, step_join, step_wider}
-use Rattle.lxtr_build_laws.specs.SettledSlots.{Settled, settle_some, settle_step}
+use Rattle.lxtr_build_laws.specs.SettledSlots.{Settled, settle_some}
 use Rattle.lxtr_build_laws.specs.Placed.{place_step}
 use Rattle.lxtr_place.specs.SettlingWords.{settled_as}
 use Rattle.lxtr_place.specs.Children.{Fresh, Done, next_fresh}
@@ -119,9 +119,6 @@ module _ {S : ℕ} {code label : ℕ → ℕ} {left : ℕ} {g : List Pair} {n p 
 
     left_over : place S code label left p g w ≡ into_each go (drop j codes) x
     left_over = is_settled_as S code label left g p w (Some (b, u)) s.some_left s.settled ∙ going.rest
-
-    pub going_size : length x ≡ length w
-    going_size = going.done.size ∙ (settle_step S p (end_value g) codes w b u s.fresh.ready up rises).size
 
     pub going_end : k ≤ j → placed_as (Some tt) x ≡ place S code label left p g w
     unfolding into_each placed_as

@@ -1,13 +1,12 @@
 -- What `place` knows while it goes into the children of a slot, and what it has to show of each child.
 use Rattle.std.specs.Prelude.{ℕ, ◌+◌, ◌*◌, ◌-◌, ◌^◌, ◌≤◌, ◌<◌, ◌≡◌, ◌≢◌, List, [], ◌++◌, get_or, length, take, drop, Some, None, Option}
-use Rattle.std.proofs.Common.{◌∙◌, arith, Fits}
+use Rattle.std.proofs.Common.{arith, Fits}
 use Rattle.std.specs.Int.{w64}
 use borrow.Author.Rules.{Fits-under}
 use Rattle.lxtr_spec.specs.Labels.{length_count, Pair}
 use Rattle.lxtr_spec.specs.KeyLists.{pairs_of}
 use Rattle.lxtr_spec.specs.Joining.{slot_under}
 use Rattle.lxtr_spec.specs.Placing.{child_codes, end_value, settle, below, place}
-use Rattle.lxtr_build_laws.specs.KeyListFacts.{Ascending}
 use Rattle.lxtr_build_laws.specs.CodeTables.{code_by, label_by, CodeTables}
 use Rattle.lxtr_build_laws.specs.Work.{placed_as}
 use Rattle.lxtr_place.specs.declared.groups.Group.{Group}
@@ -15,8 +14,7 @@ use Rattle.lxtr_place.specs.GroupRanges.{group_of, Grouped, Indexed, Placeable, 
 use Rattle.lxtr_place.specs.GroupLoops.{group_size, child_placeable}
 use Rattle.lxtr_place.specs.SettlingWords.{settled_as}
 use Rattle.lxtr_place.specs.Children.{Fresh}
-use Rattle.lxtr_place.specs.GatheredCodes.{order_long, order_inside}
-use Rattle.lxtr_place.specs.Turns.{Started, Going, start, going_start, going_size, going_end, turn_small, turn_past, turn_fresh, turn_room, turn_on, turn_refused}
+use Rattle.lxtr_place.specs.Turns.{Started, Going, start, going_start, going_end, turn_small, turn_past, turn_fresh, turn_room, turn_on, turn_refused}
 
 module _ (keys starts labels codes order : List ℕ) (S left p : ℕ) (g : Group) (w r : List ℕ) where
   -- what holds when `place` is called
@@ -48,9 +46,6 @@ module _ {keys starts labels codes order : List ℕ} {S left p : ℕ} {g : Group
 
 -- indices into the room
 module _ {S : ℕ} {code label : ℕ → ℕ} {left : ℕ} {g : List Pair} {k b : ℕ} {u room₀ room : List ℕ} {j : ℕ} {x : List ℕ} (going : Going S code label left g k b u room₀ room j x) where
-  pub codes_fit : Fits w64 (k * 4)
-  codes_fit = Fits-under w64 (k * 4) (2 ^ 32) (omega (arith, going.small)) tt
-
   pub codes_inside : k ≤ length room
   codes_inside = omega (arith, going.few, going.size)
 
@@ -73,12 +68,6 @@ module _ {keys starts labels codes order : List ℕ} {S left p : ℕ} {g : Group
   loop_first e = rw e (going_start s.started (omega (arith, s.few, s.called.placeable.grouped.values)) (omega (arith, s.few, s.size, s.called.lent.long)) s.codes_are)
 
   module _ {room : List ℕ} {j : ℕ} {x : List ℕ} (going : GoingOn room j x) where
-    pub work_size : length x ≡ length w
-    work_size = going_size s.started going
-
-    pub room_size : length room ≡ length r
-    room_size = going.size ∙ s.size
-
     pub loop_end : k ≤ j → placed_as (Some tt) x ≡ place S (code_by labels codes) (label_by labels order) left p (group_of keys g) w
     loop_end = going_end s.started going
 

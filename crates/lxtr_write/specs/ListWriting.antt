@@ -13,13 +13,13 @@ use Rattle.lxtr_spec.specs.Labels.{max_slots}
 use Rattle.lxtr_spec.specs.Image.{top_bit}
 use Rattle.lxtr_spec.specs.Placing.{base_at}
 use Rattle.lxtr_spec.specs.Builds.{is_child, child_by, children_of, children_in, offsets_from}
-use Rattle.lxtr_laws.specs.Tests.{is_false, or_is_false, eqb_is_false}
+use Rattle.lxtr_laws.specs.Tests.{is_false}
 use Rattle.lxtr_laws.specs.RangeTests.{concat_more, concat_front}
 use Rattle.lxtr_laws.specs.ByteOrders.{little, words_size, words_append, words_one}
 use Rattle.lxtr_laws.specs.Overlays.{over, over_length, over_none, over_over, over_comm, words_next}
 use Rattle.lxtr_build_laws.specs.ChildLists.{Child, child_is, list_none, list_some, offsets_length, offset_at}
 use Rattle.lxtr_write.specs.SlotCounting.{Slots}
-use Rattle.lxtr_write.specs.Links.{slot, First, Linked, ahead, child, first_small, child_there, next_index, next_first, next_less}
+use Rattle.lxtr_write.specs.Links.{slot, First, Linked, ahead, child, first_small, child_there, next_first, next_less}
 
 -- The numbers xs were written as entries, starting at entry e, of an array that starts at place `at` of the output; r is the entry
 -- after them.
@@ -139,9 +139,6 @@ module _ (w : List ℕ) (N L : ℕ) (links : List ℕ) (s : Linked w N L N links
 
     module _ (out : List ℕ) (e t : ℕ) (g : Following w N L p out₀ at start out e t) where
       module _ (some_child : t ≢ 0) where
-        pub follow_index : max_slots + t < length links
-        follow_index = next_index w N L N links s p (omega arith) p_to g.k t g.first some_child slots.few
-
         module _ (t' : ℕ) (next : t' ≡ get_or links (max_slots + t) 0) where
           pub follow_next : (out' : List ℕ) → length out' ≡ length out → out' ≡ over out (at + 4 * e) (le_bytes t) → Following w N L p out₀ at start out' (e + 1) t'
           follow_next out' l h =
@@ -163,9 +160,6 @@ module _ (w : List ℕ) (N L : ℕ) (links : List ℕ) (s : Linked w N L N links
 module _ (w : List ℕ) (N L p : ℕ) where
   abbrev childless : Bool
   childless = eqb p 0 || top_bit (get_or w (2 * p) 0)
-
-  pub list_slot : childless ≡ false → p ≢ 0
-  list_slot h = (eqb_is_false p 0).0 ((or_is_false (eqb p 0) (top_bit (get_or w (2 * p) 0))).0 h).0
 
   module _ (out : List ℕ) (at e : ℕ) where
     pub list_skipped : childless ≡ true → Put out out at e e (children_of w N L p)

@@ -1,12 +1,10 @@
 -- The sections of the image, each written after the one before it.
-use Rattle.std.specs.Prelude.{ℕ, ◌+◌, ◌*◌, ◌/◌, ◌^◌, ◌≤◌, ◌<◌, ◌≡◌, List, ◌∷◌, ◌++◌, take, get_or}
+use Rattle.std.specs.Prelude.{ℕ, ◌+◌, ◌*◌, ◌/◌, ◌≤◌, ◌<◌, ◌≡◌, List, ◌∷◌, ◌++◌, take, get_or}
 use native.Mathlib.Omega.{arith}
 use Rattle.std.proofs.Math.Path.{refl}
-use Rattle.std.proofs.Common.{sym, ap, ◌∙◌, append_assoc, length-take-le, Fits}
+use Rattle.std.proofs.Common.{sym, ap, ◌∙◌, append_assoc, length-take-le}
 use Rattle.std.proofs.Math.ListN.{length, length-append}
 use Rattle.std.proofs.Math.Seq.{take-length}
-use Rattle.std.specs.Int.{w64}
-use borrow.Author.Rules.{Fits-under}
 use Rattle.lxtr_spec.specs.Ranges.{count_below}
 use Rattle.lxtr_spec.specs.Numbers.{le_bytes, be_bytes, le_words, be_words}
 use Rattle.lxtr_spec.specs.Labels.{max_listed, Pair}
@@ -73,16 +71,7 @@ nodes_end w N n out out' i all before h l = words_end little out w nodes_at (2 *
 
 -- the label at place j of the code map: x, the number at place j of the order, is its place in the table of labels
 module _ (labels order : List ℕ) (m : MapOrder labels order) (j : ℕ) (h : j < length order) where
-  pub place_fits : Fits w64 (get_or order j 0)
-  place_fits = Fits-under w64 (get_or order j 0) (2 ^ 32) (omega (arith, m.few, m.inside j h)) tt
-
   module _ (x : ℕ) (is : x ≡ get_or order j 0) where
-    pub place_inside : x < length labels
-    place_inside = rw is (m.inside j h)
-
-    pub place_scaled : Fits w64 (x * 4)
-    place_scaled = Fits-under w64 (x * 4) (2 ^ 32) (omega (arith, m.few, place_inside)) tt
-
     pub label_listed : get_or labels x 0 ≡ get_or (picked labels order) j 0
     label_listed = rw is (sym (picked_at labels order j h))
 

@@ -6,11 +6,12 @@ ghost use Rattle.lxtr_spec.specs.Builds.{slots_used};
 ghost use Rattle.lxtr_write.specs.SlotCounting.{Slots};
 
 // Whether s is a taken slot from 2 up.
+#[tactic(auto, unfolding(lxtr_spec::specs::Placing::is_taken_from2, lxtr_spec::specs::Placing::check_at))]
 fn is_taken_from_2(work: &[u32], s: usize) -> bool
     requires { 2 * s + 1 < length work.now }
     ensures { result ≡ is_taken_from2 work.now s }
 {
-    (2 <= s) & (work[2 * s + 1] != 0)
+    2 <= s && work[2 * s + 1] != 0
 }
 
 // N: the highest taken slot plus 1, searched from the last slot down.

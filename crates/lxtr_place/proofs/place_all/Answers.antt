@@ -1,5 +1,5 @@
 -- All keys are slot 1's group; for their labels the tables agree with the code map.
-use Rattle.std.proofs.Common.{arith, rules, sym}
+use Rattle.std.proofs.Common.{arith, rules}
 use Rattle.lxtr_spec.specs.Labels.{max_labels}
 use Rattle.lxtr_spec.specs.Builds.{slots_in}
 use Rattle.lxtr_place.specs.AllKeys.{all_placeable, all_indexed, root_fresh, all_placed}

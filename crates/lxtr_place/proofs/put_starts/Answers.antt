@@ -1,4 +1,4 @@
-use Rattle.lxtr_place.specs.AllKeys.{starting_start, starting_cast, starting_inside, starting_starts, starting_turn, starting_end}
+use Rattle.lxtr_place.specs.AllKeys.{starting_start, starting_cast, starting_inside, starting_starts, starting_turn}
 use Rattle.lxtr_place.proofs.put_starts.Goals as goal
 
 pub loop-i-init : goal.loop-i-init

@@ -1,4 +1,4 @@
-use Rattle.std.proofs.Common.{◌∙◌, ap, arith, refl}
+use Rattle.std.proofs.Common.{◌∙◌, arith, refl}
 use Rattle.lxtr_place.specs.Turns.{no_label_left, none_fits}
 use Rattle.lxtr_place.specs.Within.{Called, within, loop_first, loop_end, past_end, small, child_called, child_placed, child_refused}
 use Rattle.lxtr_place.proofs.work.Work.+place.Goals.{then-code-ne0+in_ok-place, else-code-ne0}
