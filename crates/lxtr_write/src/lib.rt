@@ -34,6 +34,7 @@ fn put_magic(out: &mut [u8])
 }
 
 // Writes the header: `LXTR`, version 3 and three zeros, then N, E and M, then four zeros.
+#[tactic(auto, using(crate::specs::SectionWriting::header_put))]
 fn put_header(out: &mut [u8], slots: u32, children: u32, map: u32)
     requires { header_length ≤ length out.old }
     ensures { out.new ≡ over out.old 0 (header_bytes slots children map) }
