@@ -1,7 +1,7 @@
 -- The functions of the map of free slots, turn by turn.
 use Rattle.std.specs.Prelude.{ℕ, zero, suc, ◌+◌, ◌*◌, ◌-◌, ◌/◌, ◌%◌, ◌^◌, ◌≤◌, ◌<◌, min, ◌≡◌, refl, ◌≢◌, Bool, true, false, ◌&&◌, Some, None}
 use Rattle.std.proofs.Math.Path.{sym, ap, ap₂}
-use Rattle.std.proofs.Common.{◌∙◌, subst, one-mul, length-set, pow_pos, shl_exact, get_or-set_same, get_or-set_other}
+use Rattle.std.proofs.Common.{◌∙◌, subst, one-mul, length-set, shl_exact, get_or-set_same, get_or-set_other}
 use mathlib.Core.List.{List}
 use Rattle.std.proofs.Math.Bool.{not, and-true}
 use Rattle.std.proofs.Math.Decide.{dec_lt, ℕ_discrete}
@@ -44,19 +44,6 @@ module _ (b : ℕ) (cs m₀ m : List ℕ) (j : ℕ) (s : StepsSoFar (taken_by b)
   taking_next u e = steps_next (taken_by b) cs m₀ m j s u h (rw at at e) (taken_size (slot_under b (get_or cs j 0)) m)
 
 -- ---- a map in which the slots below S are set
-
-module _ (S i : ℕ) where
-  pub below_none : S ≤ word_bits * i → 0 ≡ 2 ^ min word_bits (S - word_bits * i) - 1
-  below_none h = let e : min word_bits (S - word_bits * i) ≡ 0 = omega arith in sym (ap (λ (n : ℕ). 2 ^ n - 1) e)
-
-  pub below_all_lem : word_bits ≤ S - word_bits * i → (2 ^ word_bits - 1) ≡ 2 ^ min word_bits (S - word_bits * i) - 1
-  below_all_lem h = let e : min word_bits (S - word_bits * i) ≡ word_bits = omega arith in sym (ap (λ (n : ℕ). 2 ^ n - 1) e)
-
-  pub below_positive : S - word_bits * i < word_bits → 1 ≤ 1 * 2 ^ (S - word_bits * i) % 2 ^ word_bits
-  below_positive h = subst (λ (n : ℕ). 1 ≤ n) (sym (one_bit (S - word_bits * i) h)) (pow_pos (S - word_bits * i))
-
-  pub below_some : S - word_bits * i < word_bits → 1 * 2 ^ (S - word_bits * i) % 2 ^ word_bits - 1 ≡ 2 ^ min word_bits (S - word_bits * i) - 1
-  below_some h = let e : min word_bits (S - word_bits * i) ≡ S - word_bits * i = omega arith in ap (λ (n : ℕ). n - 1) (one_bit (S - word_bits * i) h ∙ ap (λ (n : ℕ). 2 ^ n) (sym e))
 
 from_2 : (t : ℕ) (a : Bool) → (a && not (eqb t 0) && not (eqb t 1)) ≡ (leb 2 t && a)
 from_2 zero true = refl
