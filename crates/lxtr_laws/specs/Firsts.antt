@@ -109,7 +109,7 @@ module _ (f : ℕ → Bool) (i n : ℕ) where
   pub first_same : (g : ℕ → Bool) → ((j : ℕ) → f j ≡ g j) → (o : Option ℕ) → FirstOf f i n o → FirstOf g i n o
   unfolding FirstOf
   first_same g e (Some r) a = record { from = a.from; to = a.to; here = sym (e r) ∙ a.here; none_before = λ j h l. sym (e j) ∙ a.none_before j h l }
-  first_same g e none a = record { none = λ j h l. sym (e j) ∙ a.none j h l }
+  first_same g e None a = record { none = λ j h l. sym (e j) ∙ a.none j h l }
 
   -- from k on, if none of the numbers before k passes
   pub none_join : (k : ℕ) → NoneFrom f i k → NoneFrom f k n → NoneFrom f i n
