@@ -69,6 +69,7 @@ impl<'a> Cursor<'a> {
     pub fn number(&mut self, base: u64) -> Number {
         let before = self.rest.len();
         let mut value: u64 = 0;
+        // No `for`: the first byte that is no digit stays in the rest.
         while let Some((c, rest)) = self.rest.split_first() {
             let Some(digit) = digit_value(*c) else {
                 break;

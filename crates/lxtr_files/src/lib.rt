@@ -61,6 +61,7 @@ fn read_all(file: &mut File, room: &mut [u8; FILE_ROOM]) -> Result<Option<usize>
     ensures { IfOk result (λ read. IfSome read (λ n. n ≤ length room.new)) }
 {
     let mut size: usize = 0;
+    // No count: a read of no bytes is the end of the file.
     while size < FILE_ROOM {
         match file.read(&mut room[size..])? {
             0 => return Ok(Some(size)),

@@ -50,6 +50,7 @@ impl<'a> Iterator for Matches<'a> {
             self.first = None;
             return Some(Match { length: 0, value });
         }
+        // Not a `for`: the next call goes on with the labels that are left.
         while let Some(label) = self.labels.next() {
             let Some(slot) = step_by(&self.image, self.slot, label) else {
                 self.labels.clear();

@@ -4,12 +4,13 @@ use Rattle.lxtr_spec.specs.Labels.{max_labels}
 use Rattle.romaji_spec.specs.Pieces.{max_kept}
 use Rattle.lxtr_laws.specs.Failures.{number_not_0}
 use Rattle.lxtr_laws.specs.RefusalChains.{refused, goes_on}
-use Rattle.romaji.specs.Errors.{exit, not_0}
+use Rattle.lxtr_laws.specs.SearchReturns.{passed_err}
+use Rattle.romaji.specs.Errors.{not_0}
 use Rattle.romaji.specs.Answering.{image_refused, later_tested, convert_refused, convert_goes}
 use Rattle.romaji.proofs.convert.Goals as goal
 
 pub returns-in_err-top : goal.returns-in_err-top
-returns-in_err-top c = rw (exit _ _ c.from_residual.ensures.1) (convert_refused _ _ _ _ _ _ _ (image_refused _ _ _ c.in_err-top.ensures) (number_not_0 _))
+returns-in_err-top c = rw (passed_err _ _ c.from_residual.ensures.1) (convert_refused _ _ _ _ _ _ _ (image_refused _ _ _ c.in_err-top.ensures) (number_not_0 _))
 
 pub returns-then-is_short : goal.returns-then-is_short
 returns-then-is_short c =
@@ -20,7 +21,7 @@ pub returns-in_err-keys : goal.returns-in_err-keys
 returns-in_err-keys c =
     let short = rw c.new-kana.ensures at c.if-is_short.ensures in
     let key = c.in_err-keys.ensures in
-    rw (exit _ _ c.from_residual-in_err-keys.ensures.1)
+    rw (passed_err _ _ c.from_residual-in_err-keys.ensures.1)
     (convert_refused _ _ _ _ _ _ _ (later_tested _ _ _ c.in_ok-top.ensures _ (goes_on _ 24 _ _ (sym short) (key.0 ∙ refused _ 25 0 key.1))) (not_0 _ 24 key.0))
 
 pub returns : goal.returns
