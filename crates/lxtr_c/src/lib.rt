@@ -17,7 +17,7 @@ use lxtr_entries::{check_table, locate};
 use lxtr_fault::fault;
 use lxtr_highest::highest;
 use lxtr_host::numbers::{
-    case_numbered, count_numbered, fault_numbered, found_numbered, host_number, reason_numbered,
+    case_numbered, count_numbered, fault_numbered, found_numbered, host_number, why_numbered,
 };
 use lxtr_host::places::{put_first, put_places};
 use lxtr_position::Position;
@@ -96,7 +96,7 @@ pub extern "C" fn lxtr_longest(image: &[u8], query: &[u8]) -> u64
 pub extern "C" fn lxtr_why(image: &[u8], query: &[u8]) -> u64
     ensures { result ≡ why_number image.now query.now }
 {
-    reason_numbered(why(image, query))
+    why_numbered(why(image, query))
 }
 
 // Prefixes: how many there are. Their lengths and values are put into `places` alternately, as many as fit.

@@ -18,7 +18,7 @@ use lxtr_spec::refusals::Refusal;
 use std::marker::Model;
 
 // The first of refusals 9 to 12 that holds.
-fn check_body(image: &Image) -> Result<(), Refusal>
+pub fn check_body(image: &Image) -> Result<(), Refusal>
     ensures { refusal_of result ≡ body_refusal image.now }
 {
     if first_wrong_label(image).is_some() {

@@ -122,7 +122,7 @@ impl<'a> Lists<'a> {
     }
 
     // The first wrong entry of the list of slot p, counted from the start of the list.
-    fn first_wrong_in(&self, p: u32) -> Option<u32>
+    pub fn first_wrong_in(&self, p: u32) -> Option<u32>
         requires { p < slot_count self.now }
         ensures { result ≡ first_in (list_width self.now p) (entry_wrong_in self.now p) }
     {

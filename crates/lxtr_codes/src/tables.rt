@@ -6,7 +6,8 @@ ghost use Rattle.lxtr_build_laws.specs.OneProof.{CodeTables-prop};
 use lxtr_keys::list::KeyList;
 
 // The key list and the tables, each as long as the code map: the labels in ascending order, the code of
-// each, and their places in code order.
+// each, and their places in code order. Placing reads the first two and writing the first and the last, so they are no table of
+// triples; there is no heap for a map.
 #[derive(Clone, Copy)]
 pub struct Tables<'a> {
     pub keys: KeyList<'a>,

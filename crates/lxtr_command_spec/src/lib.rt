@@ -30,7 +30,7 @@ pub struct KeyListSize {
     pub length: usize,
 }
 
-// What the command is asked to do.
+// What the command is asked to do. What it cannot do is a case too, as in the definition `command_of`.
 #[derive(Clone, Copy, Debug, PartialEq, Eq)]
 pub enum Command {
     Check,

@@ -36,7 +36,7 @@ fn entry_at(image: &Image, base: u32, j: u32) -> Entry
     }
 }
 
-// The number of ends in the list of slot n: 1 or 0. Codes rise along a list and the code of an end is 0, so only the first entry
+// The number of ends in the list of slot n, 1 or 0, which is added to where the list starts. Codes rise along a list and the code of an end is 0, so only the first entry
 // can be an end. HAS_LEAF is tested first, because it is known sooner than the entry.
 fn ends_of(accepted: &AcceptedImage, n: u32) -> u32
     requires { n < slot_count accepted.now }

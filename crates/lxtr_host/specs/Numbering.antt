@@ -1,5 +1,5 @@
 -- The number of an answer as the code makes it: each mark adds what it stands for if it is set.
-use Rattle.std.specs.Prelude.{ℕ, ◌+◌, ◌*◌, ◌≡◌, refl, Bool, true, false, Some, None, Option, Result, Ok, Err}
+use Rattle.std.specs.Prelude.{ℕ, ◌+◌, ◌*◌, ◌≡◌, refl, Bool, true, false}
 use mir.Val.{bool_byte}
 use Rattle.lxtr_spec.specs.HostNumbers.{host_number}
 
@@ -9,8 +9,3 @@ number_added k n true true = refl
 number_added k n true false = refl
 number_added k n false true = refl
 number_added k n false false = refl
-
--- the reason that was given, or none after a refusal
-abbrev pub given : {A E : Type 0} → Result A E → Option A
-given (Ok x) = Some x
-given (Err e) = None

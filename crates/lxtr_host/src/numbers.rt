@@ -1,9 +1,8 @@
 // The 64-bit number that an operation returns to a host program.
 ghost use Rattle.std.specs.Prelude.{◌≡◌, Option, None, false};
-ghost use Rattle.lxtr_spec.specs.Answers.{refusal_of, number_by, answer_or};
+ghost use Rattle.lxtr_spec.specs.Answers.{refusal_of, number_by, answer_or, some_answer};
 ghost use Rattle.lxtr_spec.specs.HostNumbers.{host_number, value_numbered, probe_numbered, place_number, fault_numbered, reason_numbered};
 ghost use Rattle.lxtr_spec.specs.declared.Case.TheVariants.{Neither};
-ghost use Rattle.lxtr_host.specs.Numbering.{given};
 
 use lxtr_spec::refusals::{Numbered, Refusal};
 use lxtr_spec::{Case, Fault, Reason};
@@ -18,7 +17,8 @@ const VALUE: u64 = 0x1_0000_0000;
 
 const KIND: u64 = 0x4_0000_0000;
 
-// The number of a refusal, the two marks, and a value, a count or a length.
+// The number of a refusal, the two marks, and a value, a count or a length. Here and below a refusal is its number, or 0, since a
+// product has refusals of its own, and the number for C takes all of them.
 pub fn host_number(refusal: u8, more: bool, valued: bool, n: u32) -> u64
     ensures { result ≡ host_number refusal more valued n }
 {
@@ -37,7 +37,7 @@ pub fn count_numbered<E: Numbered>(answer: Result<u32, E>) -> u64
 
 // The number of a value or none, with the mark for longer keys.
 #[tactic(auto, unfolding(lxtr_spec::specs::HostNumbers::value_numbered))]
-fn value_numbered(refusal: u8, more: bool, value: Option<u32>) -> u64
+pub fn value_numbered(refusal: u8, more: bool, value: Option<u32>) -> u64
     ensures { result ≡ value_numbered refusal more value }
 {
     match value {
@@ -95,17 +95,27 @@ pub fn fault_numbered(fault: Option<Fault>) -> u64
     }
 }
 
-// The number for why a query is found or not.
+// The number of a reason, or of none, beside a refusal.
 #[tactic(auto, unfolding(lxtr_spec::specs::HostNumbers::reason_numbered, lxtr_spec::specs::Reasons::reason_number, lxtr_spec::specs::Reasons::reason_place))]
-pub fn reason_numbered(answer: Result<Reason, Refusal>) -> u64
-    ensures { result ≡ reason_numbered (refusal_of answer) (given answer) }
+pub fn reason_numbered(refusal: u8, reason: Option<Reason>) -> u64
+    ensures { result ≡ reason_numbered refusal reason }
+{
+    match reason {
+        None => place_number(refusal, 0, 0),
+        Some(Reason::IsFound) => place_number(refusal, 1, 0),
+        Some(Reason::NotListed(i)) => place_number(refusal, 2, i),
+        Some(Reason::NoStep(i)) => place_number(refusal, 3, i),
+        Some(Reason::NoKeyEnds) => place_number(refusal, 4, 0),
+        Some(Reason::TooLong) => place_number(refusal, 5, 0),
+    }
+}
+
+// The number for why a query is found or not.
+pub fn why_numbered(answer: Result<Reason, Refusal>) -> u64
+    ensures { result ≡ reason_numbered (refusal_of answer) (some_answer answer) }
 {
     match answer {
-        Err(refusal) => place_number(refusal.number(), 0, 0),
-        Ok(Reason::IsFound) => place_number(0, 1, 0),
-        Ok(Reason::NotListed(i)) => place_number(0, 2, i),
-        Ok(Reason::NoStep(i)) => place_number(0, 3, i),
-        Ok(Reason::NoKeyEnds) => place_number(0, 4, 0),
-        Ok(Reason::TooLong) => place_number(0, 5, 0),
+        Ok(reason) => reason_numbered(0, Some(reason)),
+        Err(refusal) => reason_numbered(refusal.number(), None),
     }
 }

@@ -1,13 +1,23 @@
 // The two words of a slot: base, with IS_LEAF as its top bit, and check, with HAS_LEAF.
 ghost use Rattle.std.specs.Prelude.{◌≡◌, ◌<◌};
+ghost use Rattle.lxtr_laws.specs.Passed.{Whole};
 ghost use Rattle.lxtr_spec.specs.Image.{slot_count, base_word, check_word, is_leaf, has_leaf, parent, has_parent, base, value_number, slot_from, code_to};
 
 use crate::Image;
 use crate::joining::{code_under, slot_under};
-use crate::sections::{base_word_at, check_word_at};
+use crate::sections::{base_word_at, check_word_at, slot_count};
 
 // IS_LEAF in the base word, HAS_LEAF in the check word.
 pub const TOP_BIT: u32 = 0x8000_0000;
+
+// Whether slot t exists and has n as parent. It asks only for refusals 1 to 6.
+#[tactic(auto, unfolding(lxtr_spec::specs::Image::has_parent, lxtr_spec::specs::Image::parent))]
+pub fn has_parent_at(image: &[u8], t: u32, n: u32) -> bool
+    requires { Whole image.now }
+    ensures { result ≡ has_parent image.now t n }
+{
+    t < slot_count(image) && check_word_at(image, t) % TOP_BIT == n
+}
 
 impl<'a> Image<'a> {
     pub fn base_word(&self, s: u32) -> u32
@@ -49,11 +59,10 @@ impl<'a> Image<'a> {
     }
 
     // Whether slot t exists and has n as parent.
-    #[tactic(auto, unfolding(lxtr_spec::specs::Image::has_parent))]
     pub fn has_parent(&self, t: u32, n: u32) -> bool
         ensures { result ≡ has_parent self.now t n }
     {
-        t < self.slot_count() && self.parent(t) == n
+        has_parent_at(self.bytes, t, n)
     }
 
     // The base of a slot that is not a leaf.

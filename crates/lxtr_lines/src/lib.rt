@@ -1,5 +1,5 @@
 // The lines that the programs print, written to the front of a lent line: a word and a number, the pairs of a listing in document
-// 01's form, keys with their values, and entries. The functions are for the programs.
+// 01's form, keys with their values, and entries. The functions are for the programs and the parts of the command.
 #![tactic(auto)]
 
 pub mod keys; // the labels of a key

@@ -13,7 +13,7 @@ const LIMITS: [(Refusal, usize); 5] = [
     (Refusal::TooFewSlots, MAX_SLOTS),
 ];
 
-// The limit that the sentence of a refusal names; 0 if it names none.
+// The limit that the sentence of a refusal names; 0 if it names none. Refusals of all kinds come here, so by number.
 fn limit_of(number: u8) -> u32 {
     for (refusal, limit) in LIMITS {
         if refusal.number() == number {
@@ -64,37 +64,21 @@ pub fn print_refusal<E: Numbered>(refusal: E) {
     );
 }
 
-// The place of the fault's sentence in `print_fault`, and the numbers that it names.
-fn fault_sentence(fault: Fault) -> (u8, [u32; 2]) {
-    match fault {
-        Fault::Label(place) => (0, [place, 0]),
-        Fault::Slot(s) => (1, [s, 0]),
-        Fault::Offset(p) => (2, [p, 0]),
-        Fault::Entry(p, j) => (3, [j, p]),
-        Fault::Unlisted(s) => (4, [s, 0]),
-        Fault::Childless(s) => (5, [s, 0]),
-        Fault::RootBase => (6, [1, 0]),
-        Fault::Unreachable(s) => (7, [s, 0]),
-    }
-}
-
 // Prints where the fault lies, without ending the line.
 pub fn print_fault(fault: Fault) {
-    let (place, numbers) = fault_sentence(fault);
-    print_form(
-        text_at(
-            b"place % of the code map|\
-              slot %|\
-              the list of slot % ends before it begins|\
-              entry % of the children, in the list of slot %|\
-              slot % is in no list|\
-              slot % is not an end and has an empty list|\
-              slot % has an empty list, but its base is not 0|\
-              slot %|",
-            place,
+    match fault {
+        Fault::Label(place) => print_form(b"place % of the code map", &[place]),
+        Fault::Slot(s) => print_form(b"slot %", &[s]),
+        Fault::Offset(p) => print_form(b"the list of slot % ends before it begins", &[p]),
+        Fault::Entry(p, j) => print_form(
+            b"entry % of the children, in the list of slot %",
+            &[j, p],
         ),
-        &numbers,
-    );
+        Fault::Unlisted(s) => print_form(b"slot % is in no list", &[s]),
+        Fault::Childless(s) => print_form(b"slot % is not an end and has an empty list", &[s]),
+        Fault::RootBase => print_form(b"slot 1 has an empty list, but its base is not 0", &[]),
+        Fault::Unreachable(s) => print_form(b"slot %", &[s]),
+    }
 }
 
 // Prints a refusal, and the last line.

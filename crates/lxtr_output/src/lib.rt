@@ -9,7 +9,7 @@ pub const STANDARD_OUTPUT: i32 = 1;
 
 pub const STANDARD_ERROR: i32 = 2;
 
-// The text of a place. Places are counted from 0, and each text ends with a vertical bar.
+// The text of a place, a number because it counts texts in a literal: from 0, and each text ends with a vertical bar.
 pub fn text_at(texts: &[u8], place: u8) -> &[u8] {
     texts
         .split(|c| *c == b'|')

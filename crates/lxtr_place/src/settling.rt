@@ -1,5 +1,4 @@
 // Settles a slot: finds its base, writes its own words and those of its children, and takes their slots in the map of free slots.
-// Words 2s and 2s + 1 of the work are base and check of slot s.
 ghost use Rattle.std.specs.Prelude.{◌≡◌, ◌+◌, ◌*◌, ◌/◌, ◌<◌, length};
 ghost use Rattle.lxtr_spec.specs.Labels.{value_limit, max_slots};
 ghost use Rattle.lxtr_spec.specs.Joining.{slot_under};

@@ -1,5 +1,5 @@
 -- What a Result of the code means: document 01's number of the refusal, 0 for none, and the answer.
-use Rattle.std.specs.Prelude.{ℕ, Result, Ok, Err}
+use Rattle.std.specs.Prelude.{ℕ, Result, Ok, Err, Option, Some, None}
 use Rattle.lxtr_spec.specs.declared.refusals.Refusal.{Refusal}
 use Rattle.lxtr_spec.specs.declared.refusals.Refusal.TheVariants.{ImageTooShort, NotLxtr, WrongVersion, ReservedSet, WrongSizes, WrongImageLength, WrongMap, WrongOffsetEnds, WrongLabels, WrongSlots, WrongLists, Unreachable, WrongQueryLength, RoomTooSmall, ListMalformed, TooManyKeys, KeyTooLong, NotScalar, KeysNotAscending, TooManyLabels, WorkTooSmall, TooFewSlots, OutTooSmall}
 
@@ -42,3 +42,8 @@ refusal_of r = number_by number r
 abbrev pub answer_or : {A E : Type 0} → A → Result A E → A
 answer_or other (Ok x) = x
 answer_or other (Err e) = other
+
+-- the answer, none after a refusal
+abbrev pub some_answer : {A E : Type 0} → Result A E → Option A
+some_answer (Ok x) = Some x
+some_answer (Err e) = None

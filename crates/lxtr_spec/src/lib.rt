@@ -80,7 +80,8 @@ pub enum Reason {
     TooLong,
 }
 
-// The completions in lent room: how many were written, and whether the listing stopped for lack of room.
+// The completions in lent room: how many were written, and whether the listing stopped for lack of room. A listing that stopped is
+// an answer and no refusal: its records are in the room.
 #[derive(Clone, Copy, Debug, PartialEq, Eq)]
 pub struct Listing {
     pub count: u32,

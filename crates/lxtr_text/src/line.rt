@@ -17,6 +17,14 @@ impl<'a> Line<'a> {
         Line { room, end: 0 }
     }
 
+    // A line whose first `end` bytes are written already.
+    pub fn after(room: &'a mut [u8], end: usize) -> Line<'a>
+        ensures room { result.room ≡ room.entry }
+        ensures end { result.end ≡ end }
+    {
+        Line { room, end }
+    }
+
     pub fn len(&self) -> usize
         ensures { result ≡ self.now.end }
     {

@@ -3,12 +3,11 @@
 #![tactic(auto)]
 
 ghost use Rattle.std.specs.Prelude.{◌≡◌, ◌<◌};
-ghost use Rattle.lxtr_spec.specs.Answers.{refusal_of};
+ghost use Rattle.lxtr_spec.specs.Answers.{refusal_of, some_answer};
 ghost use Rattle.lxtr_spec.specs.Labels.{labels_of};
 ghost use Rattle.lxtr_spec.specs.Image.{slot_count};
 ghost use Rattle.lxtr_spec.specs.Walks.{value_at};
 ghost use Rattle.lxtr_spec.specs.Reasons.{ended_with, stopped_at, reason_of, why_of};
-ghost use Rattle.lxtr_why.specs.Answers.{some_answer};
 
 use lxtr_bytes::labels::{Labels, label_count};
 use lxtr_image::Image;

@@ -123,6 +123,7 @@ impl<'a> Conversion<'a> {
     {
         let mut at = 0;
         let mut count = 0;
+        // No count: where the next piece begins is known only when this one is found.
         while let Some(piece) = self.piece(at) {
             count = self.put_piece(at, piece.value, room, count);
             at += piece.length;

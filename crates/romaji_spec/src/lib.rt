@@ -12,7 +12,8 @@ use lxtr_spec::refusals::{Numbered, Refusal};
 // What is kept back is a proper front part of a key, so it has at least one label less than a key may have.
 pub const MAX_KEPT: usize = MAX_LABELS - 1;
 
-// What is kept from one call to the next: `count` bytes at the front of `kept`. The others are zero.
+// What is kept from one call to the next: `count` bytes at the front of `kept`. The others are zero. An array, because there is no
+// heap, and the number of bytes with it, as in the definitions (`State`).
 #[derive(Clone, Copy, Debug, PartialEq, Eq)]
 pub struct State {
     pub count: u8,

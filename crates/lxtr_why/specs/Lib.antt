@@ -1,2 +1,0 @@
--- What the answer of the code that finds the reason means.
-pub mod Answers
