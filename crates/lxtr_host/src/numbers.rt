@@ -19,6 +19,7 @@ const KIND: u64 = 0x4_0000_0000;
 
 // The number of a refusal, the two marks, and a value, a count or a length. Here and below a refusal is its number, or 0, since a
 // product has refusals of its own, and the number for C takes all of them.
+#[tactic(auto, using(lxtr_laws::specs::Tallies::one_at_most, crate::specs::Numbering::number_added))]
 pub fn host_number(refusal: u8, more: bool, valued: bool, n: u32) -> u64
     ensures { result ≡ host_number refusal more valued n }
 {
@@ -71,6 +72,7 @@ pub fn case_numbered(answer: Result<Case, Refusal>) -> u64
 }
 
 // The number for a refusal, a kind of fault or a reason, and a place.
+#[tactic(auto, unfolding(lxtr_spec::specs::HostNumbers::place_number))]
 fn place_number(refusal: u8, kind: u8, place: u32) -> u64
     ensures { result ≡ place_number refusal kind place }
 {
