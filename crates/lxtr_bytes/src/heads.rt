@@ -28,6 +28,7 @@ pub fn count_at(s: &[u8], at: usize) -> u32
 }
 
 // Writes a head with this count at position `at`.
+#[tactic(auto, using(lxtr_laws::specs::Overlays::byte_before))]
 pub fn put_head(room: &mut [u8], at: usize, count: u32)
     requires { at + 5 ≤ length room.old }
     ensures { room.new ≡ over room.old at (1 ∷ be_bytes count) }

@@ -7,6 +7,7 @@ use crate::numbers::be32_at;
 use std::marker::Model;
 
 // Whether a number is a Unicode scalar value.
+#[tactic(auto, unfolding(lxtr_spec::specs::Labels::is_scalar))]
 pub fn is_scalar(x: u32) -> bool
     ensures { result ≡ is_scalar x }
 {
@@ -14,6 +15,7 @@ pub fn is_scalar(x: u32) -> bool
 }
 
 // How many labels a query has.
+#[tactic(auto, using(lxtr_laws::specs::QueryLabels::label_count_lem))]
 pub fn label_count(query: &[u8]) -> usize
     ensures { result ≡ length (labels_of query.now) }
 {
@@ -21,6 +23,7 @@ pub fn label_count(query: &[u8]) -> usize
 }
 
 // Label i of a query, counted from 0.
+#[tactic(auto, using(lxtr_laws::specs::QueryLabels::label_count_lem, lxtr_laws::specs::QueryLabels::label_read))]
 pub fn label_at(query: &[u8], i: usize) -> u32
     requires { i < length (labels_of query.now) }
     ensures { result ≡ get_or (labels_of query.now) i 0 }
