@@ -28,7 +28,7 @@ pub fn slots_used(work: &[u32], slots: usize) -> usize
     2
 }
 
-// How many of the slots from 2 to slots - 1 are taken.
+// How many of the slots from 2 to slots - 1 are taken. Adds without a branch: which slots are taken is hard to predict.
 pub fn taken_count(work: &[u32], slots: usize) -> usize
     requires { Slots work.now slots }
     ensures { result ≡ count_below slots (is_taken_from2 work.now) }
