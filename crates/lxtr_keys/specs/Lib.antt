@@ -1,3 +1,3 @@
--- What the code computes, turn by turn and test by test. A reader of its contracts meets only WholeBefore.
+-- What the code computes, turn by turn and test by test.
 pub mod KeyRefusals
 pub mod Keys
