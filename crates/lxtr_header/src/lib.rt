@@ -48,6 +48,7 @@ fn reserved_set(image: &[u8]) -> bool
 }
 
 // 5: N outside 2 to 65,536, or E above N - 2.
+#[tactic(auto, unfolding(lxtr_spec::specs::Refusals::sizes_wrong))]
 fn sizes_wrong(image: &[u8]) -> bool
     requires { header_length ≤ length image.now }
     ensures { result ≡ sizes_wrong image.now }
@@ -70,6 +71,7 @@ fn length_wrong(image: &[u8]) -> bool
 }
 
 // 7: M below 5, map version not 1, L above 4,095, or M not 5 + 4L.
+#[tactic(auto, unfolding(lxtr_spec::specs::Refusals::map_wrong))]
 fn map_wrong(image: &[u8]) -> bool
     requires { Whole image.now }
     ensures { result ≡ map_wrong image.now }
@@ -83,6 +85,7 @@ fn map_wrong(image: &[u8]) -> bool
 }
 
 // 8: first offset not 0 or last not E.
+#[tactic(auto, unfolding(lxtr_spec::specs::Refusals::offset_ends_wrong))]
 fn offset_ends_wrong(image: &[u8]) -> bool
     requires { Whole image.now }
     ensures { result ≡ offset_ends_wrong image.now }
