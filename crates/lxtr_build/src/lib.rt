@@ -25,7 +25,8 @@ fn clear(work: &mut [u32])
     work.fill(0);
 }
 
-// Builds from keys whose code map is known: places them, and writes the image.
+// Builds from keys whose code map is known: places them, and writes the image. That the work is all zero is no type: it holds
+// until placing begins, and the same words are read and cleared afterwards.
 fn build_mapped(tables: &Tables, work: &mut [u32], out: &mut [u8]) -> Result<u32, Refusal>
     requires { Cleared work.old }
     ensures { Answers (placed_outcome tables.now.keys.bytes.now work.old out.old) out.old result out.new }
