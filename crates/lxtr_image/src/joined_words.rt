@@ -10,6 +10,7 @@ pub const WORD_BITS: u32 = 64;
 pub const ALL_BITS: u64 = 0xffffffffffffffff;
 
 // Exchanges each bit of the mask with the bit `width` places above it, if the digit is 1.
+#[tactic(auto, using(lxtr_laws::specs::JoinedWords::digit_none, lxtr_laws::specs::JoinedWords::digit_one))]
 fn swap(word: u64, digit: u32, width: u32, mask: u64) -> u64
     requires digit_bound { digit < 2 }
     requires width_lt_word_bits { width < word_bits }
@@ -24,6 +25,7 @@ fn swap(word: u64, digit: u32, width: u32, mask: u64) -> u64
 
 // The bits of a word in the order of the bases: bit j of the answer is the bit for the slot that the low six binary digits of
 // the code reach from base j.
+#[tactic(auto, using(lxtr_laws::specs::JoinedWords::all_reordered), unfolding(lxtr_laws::specs::JoinedWords::is_swap_mask, lxtr_laws::specs::JoinedWords::wrong_at, lxtr_laws::specs::JoinedWords::swaps_at, lxtr_laws::specs::BinaryDigits::bit, lxtr_spec::specs::Joining::slot_under, lxtr_spec::specs::Ranges::any_below))]
 fn reordered(word: u64, code: u32) -> u64
     ensures { Reordered (code % word_bits) word result }
 {
@@ -37,6 +39,7 @@ fn reordered(word: u64, code: u32) -> u64
 
 // Bit j of the answer is the bit of the slot that the code reaches from base WORD_BITS * block + j. A slot past the map is not set.
 // A word that is 0 needs no other order; a search may pass many of them.
+#[tactic(auto, using(lxtr_laws::specs::JoinedWords::under_past, lxtr_laws::specs::JoinedWords::under_none, lxtr_laws::specs::JoinedWords::under_some))]
 pub fn word_under(map: &[u64], block: u32, code: u32) -> u64
     ensures { BitsOf (bit_under map.now code) (word_bits * block) word_bits result }
 {

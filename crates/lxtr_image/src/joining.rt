@@ -3,6 +3,7 @@ ghost use Rattle.std.specs.Prelude.{◌≡◌};
 ghost use Rattle.lxtr_spec.specs.Joining.{slot_under, code_under};
 
 // The slot that a code reaches from a base.
+#[tactic(auto, unfolding(lxtr_spec::specs::Joining::slot_under))]
 pub fn slot_under(base: u32, code: u32) -> u32
     ensures { result ≡ slot_under base code }
 {
@@ -10,6 +11,7 @@ pub fn slot_under(base: u32, code: u32) -> u32
 }
 
 // The code by which a base reaches a slot.
+#[tactic(auto, unfolding(lxtr_spec::specs::Joining::code_under))]
 pub fn code_under(base: u32, slot: u32) -> u32
     ensures { result ≡ code_under base slot }
 {
