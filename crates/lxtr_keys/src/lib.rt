@@ -4,6 +4,7 @@
 
 pub mod key; // one key
 pub mod list; // a list that is not refused
+pub mod walk; // the keys one after the other
 mod refusals; // 15 and 17 to 19, key by key
 
 ghost use Rattle.std.specs.Prelude.{◌≡◌, ◌+◌, ◌*◌, ◌≤◌, ◌<◌, length};

@@ -1,11 +1,12 @@
 // A key list that no refusal refuses.
 ghost use Rattle.std.specs.Prelude.{◌≡◌, IfOk};
 ghost use Rattle.lxtr_spec.specs.Answers.{refusal_of};
-ghost use Rattle.lxtr_spec.specs.KeyLists.{key_count, list_refusal};
+ghost use Rattle.lxtr_spec.specs.KeyLists.{keys_at, key_count, list_refusal};
 ghost use Rattle.lxtr_build_laws.specs.KeyListFacts.{KeysPassed};
 ghost use Rattle.lxtr_build_laws.specs.OneProof.{KeysPassed-prop};
 
-use crate::{key_count, list_refusal};
+use crate::walk::Keys;
+use crate::{KEYS_AT, key_count, list_refusal};
 use lxtr_spec::refusals::Refusal;
 
 // Its bytes.
@@ -30,5 +31,14 @@ impl<'a> KeyList<'a> {
         ensures { result ≡ key_count self.now.bytes.now }
     {
         key_count(self.bytes)
+    }
+
+    // Its keys.
+    pub fn keys(&self) -> Keys<'a>
+        ensures keys_value { result.keys.now ≡ self.now.bytes.now }
+        ensures at_value { result.at ≡ keys_at }
+        ensures left_value { result.left ≡ key_count self.now.bytes.now }
+    {
+        Keys::from(self.bytes, KEYS_AT, self.count())
     }
 }
