@@ -7,7 +7,6 @@ ghost use Rattle.lxtr_keys.specs.Keys.{labels_in};
 ghost use Rattle.lxtr_codes.specs.LabelCounting.{Countable, count_one, KeyCounted, Counted};
 
 use crate::guesses::{Guesses, find_guessed};
-use lxtr_keys::KEYS_AT;
 use lxtr_keys::key::Key;
 use lxtr_keys::list::KeyList;
 
@@ -43,14 +42,7 @@ pub fn count_keys(keys: &KeyList, labels: &[u32], guesses: &Guesses, counts: &mu
     ensures counts_len_unchanged { length counts.new ≡ length counts.old }
     ensures counted { Counted (pairs_of keys.now.bytes.now) labels.now counts.new }
 {
-    let count = keys.count();
-    let mut at: usize = KEYS_AT;
-    for _i in 0..count {
-        let key = Key {
-            keys: keys.bytes,
-            at,
-        };
+    for key in keys.keys() {
         count_key(&key, labels, guesses, counts);
-        at = key.next();
     }
 }
