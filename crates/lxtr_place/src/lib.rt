@@ -21,8 +21,8 @@ use lxtr_codes::guesses::Guesses;
 use lxtr_codes::tables::Tables;
 use lxtr_fit::free_map::FreeSlots;
 use lxtr_fit::slots::slots_in;
+use lxtr_keys::KEYS_AT;
 use lxtr_keys::list::KeyList;
-use lxtr_keys::{KEYS_AT, next_key};
 use lxtr_spec::{LENGTH_COUNT, MAX_KEYS};
 
 // Room for the codes of the children of all slots on the way to a slot. At each of these slots, all codes but one belong to keys
@@ -35,13 +35,12 @@ fn put_starts(keys: &KeyList, starts: &mut [u32])
     ensures starts_len_unchanged { length starts.new ≡ length starts.old }
     ensures starts_put { StartsPut keys.now.bytes.now starts.new (key_count keys.now.bytes.now + 1) }
 {
-    let count = keys.count();
-    let mut at: usize = KEYS_AT;
-    for i in 0..count {
-        starts[i] = at as u32;
-        at = next_key(keys.bytes, at);
+    let mut end: usize = KEYS_AT;
+    for (i, key) in keys.keys().enumerate() {
+        starts[i] = key.at as u32;
+        end = key.next();
     }
-    starts[count] = at as u32;
+    starts[keys.count()] = end as u32;
 }
 
 // Places all keys, starting at slot 1, with the tables of their code map. Answers nothing if some slot gets no base.

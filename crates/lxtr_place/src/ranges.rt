@@ -11,6 +11,7 @@ ghost use Rattle.lxtr_place.specs.Plans.{pairs_in, label_in};
 use crate::groups::{Group, KeyGroup};
 use lxtr_keys::key::Key;
 use lxtr_keys::key_length;
+use lxtr_keys::walk::Keys;
 
 // Whether a key continues with label x after `depth` labels.
 pub fn goes_by(key: &Key, depth: usize, x: u32) -> bool
@@ -37,13 +38,10 @@ fn run_of(keys: &[u8], g: Group, x: u32) -> usize
     requires { Grouped keys.now g }
     ensures { (result ≤ g.count) × (result ≡ run_of x (group_of keys.now g)) }
 {
-    let mut at = g.at;
-    for i in 0..g.count {
-        let key = Key { keys, at };
+    for (i, key) in Keys::from(keys, g.at, g.count).enumerate() {
         if !goes_by(&key, g.depth, x) {
             return i;
         }
-        at = key.next();
     }
     g.count
 }

@@ -1,19 +1,18 @@
-use Rattle.std.proofs.Common.{rules}
-use Rattle.lxtr_build_laws.specs.KeyReading.{whole_here}
-use Rattle.lxtr_place.specs.GroupLoops.{running_start, running_turn, running_stop, running_end}
+use Rattle.std.proofs.Common.{rules, ◌∙◌, arith}
+use Rattle.lxtr_place.specs.GroupLoops.{running_turn, running_stop, running_end}
 use Rattle.lxtr_place.proofs.ranges.run_of.Goals as goal
 
-pub loop-i-init : goal.loop-i-init
-loop-i-init c = search running_start
-
-pub invariant_of-key : goal.invariant_of-key
-invariant_of-key c = record { whole = search whole_here }
-
 pub returns-then-not-goes_by : goal.returns-then-not-goes_by
-returns-then-not-goes_by c = (search rules, search running_stop)
+returns-then-not-goes_by c =
+    let v = c.loop-i.invariant in
+    let s = c.in-Some.ensures.steps in
+    (search rules, s.1 ∙ running_stop _ _ _ _ _ v.2 _ (omega (arith, v.1, s.0.0)) (rw (s.0.1, v.0, s.0.2) at c.goes_by.ensures) c.if-not-goes_by.true)
 
 pub loop-i-preserved : goal.loop-i-preserved
-loop-i-preserved c = search running_turn
+loop-i-preserved c =
+    let v = c.loop-i.invariant in
+    let s = c.in-Some.ensures.steps in
+    (search rules, search rules, rw s.2 (running_turn _ _ _ _ _ v.2 _ (omega (arith, v.1, s.0.0)) (rw (s.0.1, v.0, s.0.2) at c.goes_by.ensures) _ c.if-not-goes_by.false (rw v.0 at s.0.4)))
 
 pub returns : goal.returns
-returns c = (search rules, search running_end)
+returns c = (search rules, running_end _ _ _ _ _ c.loop-i.invariant.2 (omega (arith, c.loop-i.invariant.1, c.in-None.ensures.steps.0)))
