@@ -5,7 +5,7 @@ ghost use Rattle.lxtr_spec.specs.Numbers.{be_words};
 ghost use Rattle.lxtr_spec.specs.Samples.{key_records, key_list};
 ghost use Rattle.lxtr_laws.specs.Overlays.{over};
 ghost use Rattle.lxtr_command_spec.specs.WordLists.{keyed, keyed_in};
-ghost use Rattle.lxtr_words.specs.WordTables.{key_of, WordRight};
+ghost use Rattle.lxtr_words.specs.WordTables.{key_of, WordRight, right_prop};
 ghost use Rattle.lxtr_words.specs.Tables.{keys_in};
 
 use crate::lines::word_at;
@@ -14,34 +14,41 @@ use lxtr_bytes::heads::{HEAD_LENGTH, put_head};
 use lxtr_command_spec::{KeyListSize, WordProblem};
 use lxtr_utf8::{count_labels, decode};
 
-// How many labels the word at `start` has.
-fn label_count(text: &[u8], start: usize) -> usize
-    requires { WordRight text.now start }
-    ensures { (result ≡ length (key_of text.now start)) × (result < 2 ^ 8) }
-{
-    count_labels(word_at(text, start)).unwrap_or(0)
+// The word at `start` of a text. It has no problem.
+#[derive(Clone, Copy)]
+struct Word<'t> {
+    text: &'t [u8],
+    start: usize,
+    ghost right: { WordRight text.now start } by { right_prop text.now start },
 }
 
-// Writes the labels of a word at position `at` of the output. Returns how many there are.
-fn put_labels(text: &[u8], start: usize, out: &mut [u8], at: usize) -> usize
-    requires word_right { WordRight text.now start }
-    requires start_in_bounds { at + 4 * length (key_of text.now start) ≤ length out.old }
-    ensures value { result ≡ length (key_of text.now start) }
-    ensures out_after { out.new ≡ over out.old at (be_words (key_of text.now start)) }
-{
-    decode(word_at(text, start), &mut out[at..]).unwrap_or(0)
-}
+impl Word<'_> {
+    // How many labels it has.
+    fn label_count(&self) -> usize
+        ensures { (result ≡ length (key_of self.now.text.now self.now.start)) × (result < 2 ^ 8) }
+    {
+        count_labels(word_at(self.text, self.start)).unwrap_or(0)
+    }
 
-// Writes the key of a word at position `at` of the output. Returns the position after it.
-fn put_key(text: &[u8], start: usize, out: &mut [u8], at: usize) -> usize
-    requires word_right { WordRight text.now start }
-    requires start_in_bounds { at + 1 + 4 * length (key_of text.now start) ≤ length out.old }
-    ensures value { result ≡ at + 1 + 4 * length (key_of text.now start) }
-    ensures out_after { out.new ≡ over out.old at (length (key_of text.now start) ∷ be_words (key_of text.now start)) }
-{
-    let count = put_labels(text, start, out, at + 1);
-    out[at] = count as u8;
-    at + 1 + 4 * count
+    // Writes its labels at position `at` of the output. Returns how many there are.
+    fn put_labels(&self, out: &mut [u8], at: usize) -> usize
+        requires { at + 4 * length (key_of self.now.text.now self.now.start) ≤ length out.old }
+        ensures value { result ≡ length (key_of self.now.text.now self.now.start) }
+        ensures out_after { out.new ≡ over out.old at (be_words (key_of self.now.text.now self.now.start)) }
+    {
+        decode(word_at(self.text, self.start), &mut out[at..]).unwrap_or(0)
+    }
+
+    // Writes its key at position `at` of the output. Returns the position after it.
+    fn put_key(&self, out: &mut [u8], at: usize) -> usize
+        requires { at + 1 + 4 * length (key_of self.now.text.now self.now.start) ≤ length out.old }
+        ensures value { result ≡ at + 1 + 4 * length (key_of self.now.text.now self.now.start) }
+        ensures out_after { out.new ≡ over out.old at (length (key_of self.now.text.now self.now.start) ∷ be_words (key_of self.now.text.now self.now.start)) }
+    {
+        let count = self.put_labels(out, at + 1);
+        out[at] = count as u8;
+        at + 1 + 4 * count
+    }
 }
 
 impl<'t> Words<'t> {
@@ -53,7 +60,11 @@ impl<'t> Words<'t> {
         let starts = self.starts();
         let mut total = HEAD_LENGTH;
         for start in starts {
-            total += 1 + 4 * label_count(text, *start);
+            let word = Word {
+                text,
+                start: *start,
+            };
+            total += 1 + 4 * word.label_count();
         }
         total
     }
@@ -67,7 +78,11 @@ impl<'t> Words<'t> {
         let starts = self.starts();
         let mut at = HEAD_LENGTH;
         for start in starts {
-            at = put_key(text, *start, out, at);
+            let word = Word {
+                text,
+                start: *start,
+            };
+            at = word.put_key(out, at);
         }
     }
 
