@@ -2,6 +2,7 @@
 -- SlotCounting, ListWriting and SectionWriting, and WriteOutcomes.
 pub mod SlotCounting
 pub mod Links
+pub mod OneProof
 pub mod ListWriting
 pub mod SectionWriting
 pub mod WriteOutcomes

@@ -1,5 +1,5 @@
 use Rattle.lxtr_write.specs.ListWriting.{follow_start, follow_less, follow_next, follow_end}
-use Rattle.lxtr_write.proofs.filled.Filled.put_children.Goals as goal
+use Rattle.lxtr_write.proofs.lists.Links.put_children.Goals as goal
 
 pub loop-t-init : goal.loop-t-init
 loop-t-init c = search follow_start

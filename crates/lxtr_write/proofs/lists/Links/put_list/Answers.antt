@@ -1,6 +1,6 @@
 -- Slot 0 and an end leave the output as it is; the list of any other slot is its children by all codes.
 use Rattle.lxtr_write.specs.ListWriting.{list_skipped, list_room, list_put}
-use Rattle.lxtr_write.proofs.filled.Filled.put_list.Goals as goal
+use Rattle.lxtr_write.proofs.lists.Links.put_list.Goals as goal
 
 pub returns-then-p-self : goal.returns-then-p-self
 returns-then-p-self c = search list_skipped

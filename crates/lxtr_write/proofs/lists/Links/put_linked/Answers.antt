@@ -1,6 +1,6 @@
 -- Each turn lays one offset after the offsets and one list after the lists; the last offset comes after the loop.
 use Rattle.lxtr_write.specs.ListWriting.{lists_start, lists_fit, lists_room, lists_next, lists_end}
-use Rattle.lxtr_write.proofs.filled.Filled.put_linked.Goals as goal
+use Rattle.lxtr_write.proofs.lists.Links.put_linked.Goals as goal
 
 pub loop-p-init : goal.loop-p-init
 loop-p-init c = search lists_start
