@@ -1,11 +1,9 @@
 -- All keys are below slot 1: their group may be placed in cleared work, and placing it is what the definitions say of the key list.
 use Rattle.std.specs.Prelude.{ℕ, zero, suc, ◌+◌, ◌*◌, ◌-◌, ◌^◌, ◌≤◌, ◌<◌, ◌≡◌, refl, List, ◌∷◌, get_or, length, set, Option}
 use Rattle.std.proofs.Math.Path.{sym, ap}
-use Rattle.std.proofs.Common.{◌∙◌, zero-add, arith, Fits, length-set, get_or-set_same, get_or-set_other}
+use Rattle.std.proofs.Common.{◌∙◌, zero-add, arith, length-set, get_or-set_same, get_or-set_other}
 use Rattle.std.proofs.Math.Nat.{sub-zero}
 use Rattle.std.proofs.Math.Decide.{ℕ_discrete}
-use Rattle.std.specs.Int.{w32}
-use borrow.Author.Rules.{Fits-under}
 use Rattle.lxtr_spec.specs.Labels.{length_count, Pair}
 use Rattle.lxtr_spec.specs.KeyLists.{keys_at, max_keys, key_count, next_key, key_at, keys_from, pairs_of}
 use Rattle.lxtr_spec.specs.CodeMaps.{map_of, code_in, label_with}
@@ -14,7 +12,7 @@ use Rattle.lxtr_spec.specs.Builds.{slots_in, placed_in}
 use Rattle.lxtr_laws.specs.Limit.{length_fits_byte}
 use Rattle.lxtr_build_laws.specs.KeyListFacts.{WholeKeys, KeysPassed}
 use Rattle.lxtr_build_laws.specs.CodeTables.{code_by, label_by, CodeTables}
-use Rattle.lxtr_build_laws.specs.KeyReading.{whole_here, whole_on, key_starts}
+use Rattle.lxtr_build_laws.specs.KeyReading.{whole_here, whole_on}
 use Rattle.lxtr_build_laws.specs.Work.{Cleared}
 use Rattle.lxtr_build_laws.specs.Groups.{CodesIn}
 use Rattle.lxtr_build_laws.specs.TableCodes.{codes_in, label_is}
@@ -70,9 +68,6 @@ module _ (b starts₀ : List ℕ) (k : KeysPassed b) where
   starting_start = record { passed = omega arith; size = refl; whole = rw sub-zero k.whole; small = omega arith; is = refl; put = record { each = λ j h. absurd (omega arith) } }
 
   module _ (starts : List ℕ) (at i : ℕ) (s : Starting b starts₀ starts at i) where
-    pub starting_cast : Fits w32 at
-    starting_cast = Fits-under w32 at (2 ^ 32) (omega (arith, s.small, s.passed, k.few)) tt
-
     pub starting_inside : key_count b < length starts₀ → i < length starts
     starting_inside h = omega (arith, s.size, s.passed)
 
@@ -96,9 +91,6 @@ module _ (b starts₀ : List ℕ) (k : KeysPassed b) where
       is = e ∙ ap (next_key b) s.is ∙ sym (place_next b i keys_at);
       put = put_more (starting_inside long);
     }
-
-    pub starting_starts : (n : ℕ) → n ≡ key_count b → i < n → at < length b
-    starting_starts n c h = key_starts b (key_count b) i at (omega arith) s.whole
 
 -- the lent table has the start of each key
 pub all_indexed : (b starts : List ℕ) (n : ℕ) → KeysPassed b → n ≡ key_count b → StartsPut b starts (key_count b + 1) → length starts ≡ max_keys + 1 → Indexed b starts (all n)

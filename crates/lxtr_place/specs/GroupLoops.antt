@@ -74,9 +74,6 @@ pub record Running (b : List ℕ) (g : Group) (x at i : ℕ) : Type 0 where
   pub run : run_of x (group_of b g) ≡ i + run_of x (left b g at i)
 
 module _ (b : List ℕ) (g : Group) (x : ℕ) where
-  pub running_start : Grouped b g → Running b g x g.at 0
-  running_start w = record { passed = omega arith; whole = rw sub-zero w.whole; run = omega (arith, ap (run_of x) (left_start b g)) }
-
   module _ (at i : ℕ) (r : Running b g x at i) where
     module _ (t : Bool) (h : i < g.count) (e : t ≡ goes_by x (drop g.depth (key_at b at))) where
       pub running_turn : (at' : ℕ) → t ≡ true → at' ≡ next_key b at → Running b g x at' (i + 1)
