@@ -4,4 +4,4 @@ use Rattle.lxtr_c.proofs.lxtr_why.Goals as goal
 
 pub returns : goal.returns
 unfolding why_number
-returns c = rw (← c.why.ensures) c.reason_numbered.ensures
+returns c = rw (← c.why.ensures) c.why_numbered.ensures
