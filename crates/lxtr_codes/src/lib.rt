@@ -55,7 +55,8 @@ pub fn code_map(
     order: &mut [u32],
 ) -> Result<usize, Refusal>
     requires { (length labels.old ≡ table_size) × (length codes.old ≡ table_size) × (length order.old ≡ table_size) }
-    ensures { MappedOr (pairs_of keys.now.bytes.now) labels.new codes.new order.new result }
+    ensures mapped { MappedOr (pairs_of keys.now.bytes.now) labels.new codes.new order.new result }
+    ensures sizes { (length labels.new ≡ table_size) × (length codes.new ≡ table_size) × (length order.new ≡ table_size) }
 {
     let mut guesses = Guesses::new();
     let n = gather_labels(keys, labels, &mut guesses)?;
