@@ -126,8 +126,8 @@ pub extern "C" fn lxtr_position_fresh() -> u64
 pub extern "C" fn lxtr_position_push(image: &[u8], position: u64, label: u32) -> u64
     ensures { result ≡ host_push_of image.now position label }
 {
-    let mut moved = Position::from(position);
-    let _ = moved.push(image, label); // a refusal leaves it
+    let before = Position::from(position);
+    let moved = before.push(image, label).unwrap_or(before); // a refusal leaves it
     u64::from(moved)
 }
 
@@ -136,8 +136,8 @@ pub extern "C" fn lxtr_position_push(image: &[u8], position: u64, label: u32) ->
 pub extern "C" fn lxtr_position_back(image: &[u8], position: u64) -> u64
     ensures { result ≡ host_back_of image.now position }
 {
-    let mut moved = Position::from(position);
-    let _ = moved.back(image); // a refusal leaves it
+    let before = Position::from(position);
+    let moved = before.back(image).unwrap_or(before); // a refusal leaves it
     u64::from(moved)
 }
 

@@ -17,15 +17,15 @@ use lxtr_image::sections::{
 use lxtr_spec::refusals::Refusal;
 use lxtr_spec::{MAX_LISTED, MAX_SLOTS, MIN_SLOTS};
 
-// The bytes `LXTR` as a number, so that the four bytes are compared at once.
-const MAGIC: u32 = 0x5254_584C;
+// The byte string at the front of each image.
+const MAGIC: [u8; 4] = *b"LXTR";
 
-// 2: first four bytes differ from `LXTR`.
+// 2: first four bytes differ from `LXTR`. Both are read as one number, so that the four bytes are compared at once.
 fn magic_differs(image: &[u8]) -> bool
     requires { header_length ≤ length image.now }
     ensures { result ≡ magic_differs image.now }
 {
-    u32::from_le_bytes([image[0], image[1], image[2], image[3]]) != MAGIC
+    u32::from_le_bytes([image[0], image[1], image[2], image[3]]) != u32::from_le_bytes(MAGIC)
 }
 
 // 3: version is not 3.

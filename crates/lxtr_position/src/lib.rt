@@ -114,28 +114,28 @@ impl Position {
         Some(self.slot)
     }
 
-    // Takes one more label. After a refusal the position stays.
+    // The position after one more label. A refusal answers none: the position stays the one before.
     #[tactic(auto, unfolding(lxtr_spec::specs::Positions::is_placed, lxtr_spec::specs::Positions::push_of, lxtr_spec::specs::Positions::moved_to, lxtr_spec::specs::Positions::move_answer, lxtr_spec::specs::Refusals::unless_refused))]
-    pub fn push(&mut self, image: &[u8], label: u32) -> Result<(), Refusal>
-        ensures { record { refusal = refusal_of result; position = position_means self.new } ≡ push_of image.now (position_means self.old) label }
+    pub fn push(self, image: &[u8], label: u32) -> Result<Position, Refusal>
+        ensures { record { refusal = refusal_of result; position = position_means (answer_or self result) } ≡ push_of image.now (position_means self) label }
     {
         let opened = read(image)?;
-        if self.is_placed(&opened) {
-            *self = self.pushed(&opened, label);
+        if !self.is_placed(&opened) {
+            return Ok(self);
         }
-        Ok(())
+        Ok(self.pushed(&opened, label))
     }
 
-    // Takes the last label back. After a refusal the position stays.
+    // The position after the last label is taken back. A refusal answers none: the position stays the one before.
     #[tactic(auto, unfolding(lxtr_spec::specs::Positions::is_placed, lxtr_spec::specs::Positions::back_of, lxtr_spec::specs::Positions::moved_to, lxtr_spec::specs::Positions::move_answer, lxtr_spec::specs::Refusals::unless_refused))]
-    pub fn back(&mut self, image: &[u8]) -> Result<(), Refusal>
-        ensures { record { refusal = refusal_of result; position = position_means self.new } ≡ back_of image.now (position_means self.old) }
+    pub fn back(self, image: &[u8]) -> Result<Position, Refusal>
+        ensures { record { refusal = refusal_of result; position = position_means (answer_or self result) } ≡ back_of image.now (position_means self) }
     {
         let opened = read(image)?;
-        if self.is_placed(&opened) {
-            *self = self.taken_back(&opened);
+        if !self.is_placed(&opened) {
+            return Ok(self);
         }
-        Ok(())
+        Ok(self.taken_back(&opened))
     }
 
     // What a lookup of the labels typed so far would answer.
