@@ -1,11 +1,19 @@
 -- Labels written into room one after the other, starting at label `at`: the first i of them are there.
-use Rattle.std.specs.Prelude.{ℕ, ◌+◌, ◌*◌, ◌≤◌, ◌<◌, ◌≡◌, refl, List, get_or}
-use Rattle.std.proofs.Common.{arith, le_refl, ◌∙◌, take_all}
+use Rattle.std.specs.Prelude.{ℕ, ◌+◌, ◌*◌, ◌-◌, ◌≤◌, ◌<◌, ◌≡◌, refl, List, ◌∷◌, get_or, drop}
+use Rattle.std.proofs.Common.{arith, le_refl, sym, ◌∙◌, take_all, length-drop}
 use Rattle.std.proofs.Math.Path.{ap}
 use Rattle.std.proofs.Math.ListN.{length}
+use Rattle.std.proofs.lemmas.List.{drop_more}
 use Rattle.lxtr_spec.specs.Numbers.{be_bytes, be_words}
 use Rattle.lxtr_laws.specs.ByteOrders.{big}
 use Rattle.lxtr_laws.specs.Overlays.{over, over_length, WordsIn, words_start, words_next}
+
+-- the labels from i on are x and then ys: x is label i
+pub next_label : (xs : List ℕ) (i x : ℕ) (ys : List ℕ) → drop i xs ≡ x ∷ ys → (i < length xs) × (get_or xs i 0 ≡ x) × (drop (i + 1) xs ≡ ys)
+next_label xs i x ys e =
+    let h : i < length xs = let n = ap length e in omega (arith, length-drop i xs) in
+    let q : get_or xs i 0 ∷ drop (i + 1) xs ≡ x ∷ ys = sym (drop_more xs i 0 h) ∙ e in
+    (h, ap (λ (l : List ℕ). get_or l 0 0) q, ap (λ (l : List ℕ). drop 1 l) q)
 
 pub record LabelsPut (xs room : List ℕ) (at i : ℕ) (room' : List ℕ) : Type 0 where
   pub to : i ≤ length xs

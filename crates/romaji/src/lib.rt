@@ -16,7 +16,7 @@ ghost use Rattle.romaji_spec.specs.Typing.{typing_number, answered, convert, typ
 
 use crate::keys::Keys;
 use crate::pieces::Conversion;
-use crate::tables::Kana;
+use crate::tables::{INDEXED, Kana};
 use crate::texts::Text;
 use lxtr_highest::highest;
 use romaji_spec::{MAX_KEPT, State, TypingRefusal};
@@ -45,7 +45,8 @@ fn convert(
     ensures { record { answer = record { refusal = number_by typing_number result; count = answer_or 0 result; state = state.new }; room = room.new } ≡ convert keeping image.now kana.now state.old typed.now room.old }
 {
     let top = highest(image)?;
-    let kana = Kana::new(kana, top);
+    let mut places = [0; INDEXED];
+    let kana = Kana::new(kana, top, &mut places);
     if kana.is_short(top) {
         return Err(TypingRefusal::TableTooShort);
     }

@@ -10,7 +10,8 @@ ghost use Rattle.romaji.specs.Writing.{Converts};
 use crate::keys::Keys;
 use crate::tables::Kana;
 use crate::texts::Text;
-use lxtr_bytes::labels::label_count;
+use lxtr_bytes::labels::{Labels, label_count};
+use lxtr_bytes::numbers::put_be32;
 use lxtr_spec::MAX_LABELS;
 use romaji_spec::MAX_KEPT;
 
@@ -37,14 +38,15 @@ pub struct Converted {
     pub count: usize,
 }
 
-// Writes the labels of `text` into the room, starting at label `at`. Both have four big-endian bytes for a label.
+// Writes the labels of `text` into the room, starting at label `at`. Label by label, since a copy of bytes would need a function that
+// the archive for C does not have.
 fn put_text(text: &[u8], room: &mut [u8], at: usize)
     requires { 4 * (at + length (labels_of text.now)) ≤ length room.old }
     ensures { room.new ≡ over room.old (4 * at) (be_words (labels_of text.now)) }
 {
-    let size = 4 * label_count(text);
-    let start = 4 * at;
-    room[start..start + size].copy_from_slice(&text[..size]);
+    for (i, label) in Labels::of(text).enumerate() {
+        put_be32(room, 4 * (at + i), label);
+    }
 }
 
 impl<'a> Conversion<'a> {

@@ -7,7 +7,7 @@ ghost use Rattle.romaji.specs.Tables.{most_places};
 use std::marker::Model;
 
 // The most texts whose places are kept.
-const INDEXED: usize = 512;
+pub const INDEXED: usize = 512;
 
 // How many places are kept for an image with this highest value: one for each text, and at least one. Any number in this range
 // gives the same answers; with more places, texts are found sooner.
@@ -31,11 +31,11 @@ fn text_end(kana: &[u8], at: usize) -> usize
 }
 
 // A kana table with the places of its first texts; in a contract it is the table's bytes. The places lie in an array because the
-// library has no heap.
+// library has no heap; it is lent, since in the table it would be copied with it.
 #[derive(Drop)]
 pub struct Kana<'a> {
     bytes: &'a [u8],
-    places: [usize; INDEXED],
+    places: &'a [usize],
     count: usize,
 }
 
@@ -47,16 +47,15 @@ impl<'a> Model for Kana<'a> {
 
     ghost view = { λ k. k.bytes.now };
 
-    ghost invariant = { λ k. Indexed k.bytes.now k.places k.count };
+    ghost invariant = { λ k. Indexed k.bytes.now k.places.now k.count };
 }
 
 impl<'a> Kana<'a> {
-    // The table for an image with this highest value.
-    pub fn new(bytes: &'a [u8], highest: Option<u32>) -> Self
+    // The table for an image with this highest value. The places are put into the array.
+    pub fn new(bytes: &'a [u8], highest: Option<u32>, places: &'a mut [usize; INDEXED]) -> Self
         ensures { result ≡ bytes.now }
     {
         let count = place_count(highest);
-        let mut places = [0; INDEXED];
         let mut at = 0;
         for place in places[..count].iter_mut() {
             *place = at;
