@@ -57,18 +57,21 @@ pub fn found_numbered(answer: Result<Option<u32>, Refusal>) -> u64
     }
 }
 
-// The number of a lookup's answer.
+// The number of a lookup's answer. Mark and value are found each on its own, so that the compiler needs no jump by the case.
 #[tactic(auto, unfolding(lxtr_spec::specs::HostNumbers::probe_numbered, lxtr_spec::specs::Searches::case_value, lxtr_spec::specs::Searches::case_longer))]
 pub fn case_numbered(answer: Result<Case, Refusal>) -> u64
     ensures { result ≡ probe_numbered (record { refusal = refusal_of answer; case = answer_or Neither answer }) }
 {
-    match answer {
-        Err(refusal) => value_numbered(refusal.number(), false, None),
-        Ok(Case::Neither) => value_numbered(0, false, None),
-        Ok(Case::PrefixOnly) => value_numbered(0, true, None),
-        Ok(Case::ExactOnly(v)) => value_numbered(0, false, Some(v)),
-        Ok(Case::ExactAndPrefix(v)) => value_numbered(0, true, Some(v)),
-    }
+    let case = match answer {
+        Ok(case) => case,
+        Err(refusal) => return value_numbered(refusal.number(), false, None),
+    };
+    let more = matches!(case, Case::PrefixOnly | Case::ExactAndPrefix(_));
+    let value = match case {
+        Case::Neither | Case::PrefixOnly => None,
+        Case::ExactOnly(v) | Case::ExactAndPrefix(v) => Some(v),
+    };
+    value_numbered(0, more, value)
 }
 
 // The number for a refusal, a kind of fault or a reason, and a place.
