@@ -1,12 +1,13 @@
 // Reads an LXTR image: nodes, lists and code map, and the joining rule. An `Image` is bytes that passed refusals 1 to 8, which
-// `lxtr_header` tests; in a contract it is these bytes.
+// `lxtr_header` tests; in a contract it is these bytes. The functions of `sections`, `nodes` and `lists` read
+// bytes that passed 1 to 6, or fewer; the methods call them.
 #![tactic(auto)]
 
 pub mod sections; // the header's numbers, and where each part starts, of bytes of which less is known
 pub mod joining; // slot, base and code
 pub mod joined_words; // the same for 64 bases at a time, over a map with one bit for each slot
 pub mod nodes; // the two words of a slot
-mod lists; // offsets and children
+pub mod lists; // offsets and children
 mod code_map; // the listed labels, and the code of a label
 
 ghost use Rattle.std.specs.Prelude.{◌≡◌, ◌+◌, ◌≤◌, ◌<◌};

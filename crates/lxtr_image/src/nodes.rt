@@ -10,15 +10,84 @@ use crate::sections::{base_word_at, check_word_at, slot_count};
 // IS_LEAF in the base word, HAS_LEAF in the check word.
 pub const TOP_BIT: u32 = 0x8000_0000;
 
-// Whether slot t exists and has n as parent. It asks only for refusals 1 to 6.
-#[tactic(auto, unfolding(lxtr_spec::specs::Image::has_parent, lxtr_spec::specs::Image::parent))]
+// What a slot has, of bytes that passed refusals 1 to 6. An `Image` has passed 7 and 8 too, which none of this needs.
+#[tactic(auto, unfolding(lxtr_spec::specs::Image::is_leaf))]
+pub fn is_leaf_at(image: &[u8], s: u32) -> bool
+    requires whole { Whole image.now }
+    requires s_bound { s < slot_count image.now }
+    ensures { result ≡ is_leaf image.now s }
+{
+    TOP_BIT <= base_word_at(image, s)
+}
+
+#[tactic(auto, unfolding(lxtr_spec::specs::Image::has_leaf))]
+pub fn has_leaf_at(image: &[u8], s: u32) -> bool
+    requires whole { Whole image.now }
+    requires s_bound { s < slot_count image.now }
+    ensures { result ≡ has_leaf image.now s }
+{
+    TOP_BIT <= check_word_at(image, s)
+}
+
+#[tactic(auto, unfolding(lxtr_spec::specs::Image::parent))]
+pub fn parent_at(image: &[u8], s: u32) -> u32
+    requires whole { Whole image.now }
+    requires s_bound { s < slot_count image.now }
+    ensures { result ≡ parent image.now s }
+{
+    check_word_at(image, s) % TOP_BIT
+}
+
+// Whether slot t exists and has n as parent.
+#[tactic(auto, unfolding(lxtr_spec::specs::Image::has_parent))]
 pub fn has_parent_at(image: &[u8], t: u32, n: u32) -> bool
     requires { Whole image.now }
     ensures { result ≡ has_parent image.now t n }
 {
-    t < slot_count(image) && check_word_at(image, t) % TOP_BIT == n
+    t < slot_count(image) && parent_at(image, t) == n
 }
 
+// The base of a slot that is not a leaf.
+#[tactic(auto, unfolding(lxtr_spec::specs::Image::base))]
+pub fn base_at(image: &[u8], s: u32) -> u32
+    requires whole { Whole image.now }
+    requires s_bound { s < slot_count image.now }
+    ensures { result ≡ base image.now s }
+{
+    base_word_at(image, s) % TOP_BIT
+}
+
+// The value number of a leaf. It is computed as the base of any other slot is.
+#[tactic(auto, unfolding(lxtr_spec::specs::Image::value_number, lxtr_spec::specs::Image::base))]
+pub fn value_number_at(image: &[u8], s: u32) -> u32
+    requires whole { Whole image.now }
+    requires s_bound { s < slot_count image.now }
+    ensures { result ≡ value_number image.now s }
+{
+    base_at(image, s)
+}
+
+// The slot that a code reaches from slot n.
+#[tactic(auto, unfolding(lxtr_spec::specs::Image::slot_from))]
+pub fn slot_from_at(image: &[u8], n: u32, code: u32) -> u32
+    requires whole { Whole image.now }
+    requires n_bound { n < slot_count image.now }
+    ensures { result ≡ slot_from image.now n code }
+{
+    slot_under(base_at(image, n), code)
+}
+
+// The code by which slot n reaches a slot.
+#[tactic(auto, unfolding(lxtr_spec::specs::Image::code_to))]
+pub fn code_to_at(image: &[u8], n: u32, slot: u32) -> u32
+    requires whole { Whole image.now }
+    requires n_bound { n < slot_count image.now }
+    ensures { result ≡ code_to image.now n slot }
+{
+    code_under(base_at(image, n), slot)
+}
+
+// The same of an `Image`.
 impl<'a> Image<'a> {
     pub fn base_word(&self, s: u32) -> u32
         requires { s < slot_count self.now }
@@ -34,70 +103,58 @@ impl<'a> Image<'a> {
         check_word_at(self.bytes, s)
     }
 
-    #[tactic(auto, unfolding(lxtr_spec::specs::Image::is_leaf))]
     pub fn is_leaf(&self, s: u32) -> bool
         requires { s < slot_count self.now }
         ensures { result ≡ is_leaf self.now s }
     {
-        TOP_BIT <= self.base_word(s)
+        is_leaf_at(self.bytes, s)
     }
 
-    #[tactic(auto, unfolding(lxtr_spec::specs::Image::has_leaf))]
     pub fn has_leaf(&self, s: u32) -> bool
         requires { s < slot_count self.now }
         ensures { result ≡ has_leaf self.now s }
     {
-        TOP_BIT <= self.check_word(s)
+        has_leaf_at(self.bytes, s)
     }
 
-    #[tactic(auto, unfolding(lxtr_spec::specs::Image::parent))]
     pub fn parent(&self, s: u32) -> u32
         requires { s < slot_count self.now }
         ensures { result ≡ parent self.now s }
     {
-        self.check_word(s) % TOP_BIT
+        parent_at(self.bytes, s)
     }
 
-    // Whether slot t exists and has n as parent.
     pub fn has_parent(&self, t: u32, n: u32) -> bool
         ensures { result ≡ has_parent self.now t n }
     {
         has_parent_at(self.bytes, t, n)
     }
 
-    // The base of a slot that is not a leaf.
-    #[tactic(auto, unfolding(lxtr_spec::specs::Image::base))]
     pub fn base(&self, s: u32) -> u32
         requires { s < slot_count self.now }
         ensures { result ≡ base self.now s }
     {
-        self.base_word(s) % TOP_BIT
+        base_at(self.bytes, s)
     }
 
-    // The value number of a leaf. It is computed as the base of any other slot is.
-    #[tactic(auto, unfolding(lxtr_spec::specs::Image::value_number))]
     pub fn value_number(&self, s: u32) -> u32
         requires { s < slot_count self.now }
         ensures { result ≡ value_number self.now s }
     {
-        self.base_word(s) % TOP_BIT
+        value_number_at(self.bytes, s)
     }
 
-    // The slot that a code reaches from slot n.
-    #[tactic(auto, unfolding(lxtr_spec::specs::Image::slot_from))]
     pub fn slot_from(&self, n: u32, code: u32) -> u32
         requires { n < slot_count self.now }
         ensures { result ≡ slot_from self.now n code }
     {
-        slot_under(self.base(n), code)
+        slot_from_at(self.bytes, n, code)
     }
 
-    // The code by which slot n reaches a slot.
-    #[tactic(auto, unfolding(lxtr_spec::specs::Image::code_to))]
     pub fn code_to(&self, n: u32, slot: u32) -> u32
         requires { n < slot_count self.now }
         ensures { result ≡ code_to self.now n slot }
     {
-        code_under(self.base(n), slot)
+        code_to_at(self.bytes, n, slot)
     }
 }
