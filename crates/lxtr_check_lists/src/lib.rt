@@ -36,7 +36,7 @@ pub fn used_count(image: &Image) -> u32
 {
     let mut used: u32 = 0;
     for s in 0..image.slot_count() {
-        used += is_used_from_2(image, s) as u32;
+        used += is_used_from_2(image.bytes(), s) as u32;
     }
     used
 }
@@ -50,7 +50,7 @@ fn entry_wrong(image: &Image, p: u32, j: u32) -> bool
     if image.slot_count() <= t {
         return true;
     }
-    (t < 2) | !is_used(image, t) | (image.parent(t) != p)
+    (t < 2) | !is_used(image.bytes(), t) | (image.parent(t) != p)
 }
 
 // Whether the code of entry j is not above that of the entry before it in the list of slot p.
@@ -150,7 +150,7 @@ pub fn childless(image: &Image, s: u32) -> bool
     requires { s < slot_count image.now }
     ensures { result ≡ childless image.now s }
 {
-    is_used_from_2(image, s) & !image.is_leaf(s) & (image.list_width(s) == 0)
+    is_used_from_2(image.bytes(), s) & !image.is_leaf(s) & (image.list_width(s) == 0)
 }
 
 // Looks at all slots instead of stopping at the first: which slots are leaves is hard to predict, so no branch depends on it.

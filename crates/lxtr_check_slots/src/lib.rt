@@ -4,24 +4,28 @@
 ghost use Rattle.std.specs.Prelude.{◌≡◌, ◌<◌, false, MatchResult, Some};
 ghost use Rattle.lxtr_spec.specs.Image.{slot_count};
 ghost use Rattle.lxtr_spec.specs.Refusals.{is_used_from2, is_used, both_zero, used_slot_wrong, end_exists, flag_wrong, slot_wrong, slots_wrong};
-ghost use Rattle.lxtr_laws.specs.Passed.{Passed};
+ghost use Rattle.lxtr_laws.specs.Passed.{Whole, Passed};
 ghost use Rattle.lxtr_laws.specs.FirstPlaces.{first_in};
 
 use lxtr_image::Image;
+use lxtr_image::nodes::parent_at;
 use std::marker::Model;
 
+// Which slots are used is asked of bytes that passed refusals 1 to 6; it needs none of what 7 and 8 say.
 #[tactic(auto, unfolding(lxtr_spec::specs::Refusals::is_used_from2))]
-pub fn is_used_from_2(image: &Image, s: u32) -> bool
-    requires { s < slot_count image.now }
+pub fn is_used_from_2(image: &[u8], s: u32) -> bool
+    requires whole { Whole image.now }
+    requires s_bound { s < slot_count image.now }
     ensures { result ≡ is_used_from2 image.now s }
 {
-    (2 <= s) & (image.parent(s) != 0)
+    (2 <= s) & (parent_at(image, s) != 0)
 }
 
 // Used are slot 1 and every slot from 2 up whose parent is not 0.
 #[tactic(auto, unfolding(lxtr_spec::specs::Refusals::is_used))]
-pub fn is_used(image: &Image, s: u32) -> bool
-    requires { s < slot_count image.now }
+pub fn is_used(image: &[u8], s: u32) -> bool
+    requires whole { Whole image.now }
+    requires s_bound { s < slot_count image.now }
     ensures { result ≡ is_used image.now s }
 {
     (s == 1) | is_used_from_2(image, s)
@@ -46,7 +50,7 @@ fn used_slot_wrong(image: &Image, s: u32) -> bool
         return true;
     }
     let code = image.code_to(p, s);
-    !is_used(image, p)
+    !is_used(image.bytes(), p)
         | image.is_leaf(p)
         | (image.label_count() < code)
         | (image.is_leaf(s) != (code == 0))
@@ -80,7 +84,7 @@ fn slot_wrong(image: &Image, s: u32) -> bool
     if s == 1 {
         return image.is_leaf(s) | (image.parent(s) != 0) | flag_wrong(image, s);
     }
-    if !is_used_from_2(image, s) {
+    if !is_used_from_2(image.bytes(), s) {
         return !both_zero(image, s) | flag_wrong(image, s);
     }
     used_slot_wrong(image, s) | flag_wrong(image, s)

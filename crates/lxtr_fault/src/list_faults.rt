@@ -37,7 +37,7 @@ fn unlisted(lists: &Lists, s: u32) -> bool
     ensures { result ≡ unlisted lists.now s }
 {
     let image = lists.image();
-    if !is_used_from_2(&image, s) {
+    if !is_used_from_2(image.bytes(), s) {
         return false;
     }
     !has_entry(lists, image.parent(s), s)

@@ -7,4 +7,4 @@ pub returns-then-slot_count-t : goal.returns-then-slot_count-t
 returns-then-slot_count-t c = search (entry_past, rules)
 
 pub returns : goal.returns
-returns c = search (entry_tested, rules)
+returns c = let used = rw c.bytes.ensures.value at c.is_used.ensures in search (entry_tested, used, rules)

@@ -10,7 +10,7 @@ pub returns-then-s-eq1 : goal.returns-then-s-eq1
 returns-then-s-eq1 c = search (slot_one, rules)
 
 pub returns-then-not-is_used_from_2 : goal.returns-then-not-is_used_from_2
-returns-then-not-is_used_from_2 c = search (slot_unused, rules)
+returns-then-not-is_used_from_2 c = let used = rw c.bytes.ensures.value at c.is_used_from_2.ensures in search (slot_unused, used, rules)
 
 pub returns : goal.returns
-returns c = search (slot_used, rules)
+returns c = let used = rw c.bytes.ensures.value at c.is_used_from_2.ensures in search (slot_used, used, rules)
