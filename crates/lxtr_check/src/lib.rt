@@ -6,6 +6,7 @@ ghost use Rattle.std.specs.Prelude.{◌≡◌, ◌<◌, IfOk};
 ghost use Rattle.lxtr_spec.specs.Image.{slot_count};
 ghost use Rattle.lxtr_spec.specs.Refusals.{header_refusal, body_refusal, image_refusal, is_end, end_count, check_of};
 ghost use Rattle.lxtr_spec.specs.Answers.{refusal_of, answer_or};
+ghost use Rattle.lxtr_laws.specs.Passed.{Whole};
 ghost use Rattle.lxtr_laws.specs.Facts.{Accepted};
 
 use lxtr_check_labels::first_wrong_label;
@@ -14,6 +15,7 @@ use lxtr_check_reach::first_unreachable;
 use lxtr_check_slots::{Slots, is_used_from_2};
 use lxtr_header::read;
 use lxtr_image::Image;
+use lxtr_image::nodes::is_leaf_at;
 use lxtr_spec::refusals::Refusal;
 use std::marker::Model;
 
@@ -83,13 +85,14 @@ pub fn accept(image: &[u8]) -> Result<AcceptedImage<'_>, Refusal>
     AcceptedImage::check(&read(image)?)
 }
 
-// Whether slot s is a key's end.
+// Whether slot s is a key's end, of bytes that passed refusals 1 to 6.
 #[tactic(auto, unfolding(lxtr_spec::specs::Refusals::is_end))]
-pub fn is_end(image: &Image, s: u32) -> bool
-    requires { s < slot_count image.now }
+pub fn is_end(image: &[u8], s: u32) -> bool
+    requires whole { Whole image.now }
+    requires s_bound { s < slot_count image.now }
     ensures { result ≡ is_end image.now s }
 {
-    is_used_from_2(image, s) & image.is_leaf(s)
+    is_used_from_2(image, s) & is_leaf_at(image, s)
 }
 
 // The number of ends. An image has one for each pair. Adds without a branch: which slots are ends is hard to predict.
@@ -98,7 +101,7 @@ fn end_count(image: &Image) -> u32
 {
     let mut ends: u32 = 0;
     for s in 0..image.slot_count() {
-        ends += is_end(image, s) as u32;
+        ends += is_end(image.bytes(), s) as u32;
     }
     ends
 }

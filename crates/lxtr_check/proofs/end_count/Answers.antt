@@ -8,7 +8,7 @@ pub loop-s-init : goal.loop-s-init
 loop-s-init c = search count_start
 
 pub loop-s-preserved : goal.loop-s-preserved
-loop-s-preserved c = search (count_next, rules)
+loop-s-preserved c = let is = rw c.bytes.ensures.value at c.is_end.ensures in search (count_next, is, rules)
 
 pub returns : goal.returns
 unfolding end_count
