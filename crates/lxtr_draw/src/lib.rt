@@ -2,13 +2,13 @@
 #![tactic(auto)]
 
 ghost use Rattle.std.specs.Prelude.{◌≡◌, ◌+◌, cond, ◌≤◌, ◌<◌};
-ghost use Rattle.lxtr_spec.specs.Image.{slot_count, child_count, is_leaf, has_leaf, parent, base, value_number};
+ghost use Rattle.lxtr_spec.specs.Image.{slot_count, child_count, has_leaf};
 ghost use Rattle.lxtr_command_spec.specs.Drawings.{colour, slot_line, step_line, entry_line, is_wrong_slot, is_wrong_entry, is_drawn, slot_text, step_text, list_of, entry_text};
 ghost use Rattle.lxtr_laws.specs.Passed.{Whole, Passed};
 ghost use Rattle.lxtr_text.specs.Appends.{Appended};
 
 use lxtr_image::Image;
-use lxtr_image::nodes::TOP_BIT;
+use lxtr_image::nodes::{base_at, has_leaf_at, is_leaf_at, parent_at, value_number_at};
 use lxtr_image::sections::{base_word_at, check_word_at, child_at};
 use lxtr_spec::Fault;
 use lxtr_text::forms::fill;
@@ -21,44 +21,14 @@ fn colour(wrong: bool) -> u32
     if wrong { 0xE00000 } else { 0x202020 }
 }
 
-// What a drawing says of a slot. It needs only that the bytes passed refusals 1 to 6, so an `Image` is not asked for.
-#[tactic(auto, unfolding(lxtr_spec::specs::Image::is_leaf))]
-fn is_leaf(image: &[u8], s: u32) -> bool
-    requires whole { Whole image.now }
-    requires s_bound { s < slot_count image.now }
-    ensures { result ≡ is_leaf image.now s }
-{
-    TOP_BIT <= base_word_at(image, s)
-}
-
-#[tactic(auto, unfolding(lxtr_spec::specs::Image::parent))]
-fn parent(image: &[u8], s: u32) -> u32
-    requires whole { Whole image.now }
-    requires s_bound { s < slot_count image.now }
-    ensures { result ≡ parent image.now s }
-{
-    check_word_at(image, s) % TOP_BIT
-}
-
-// The base, or the value of a leaf.
-#[tactic(auto, unfolding(lxtr_spec::specs::Image::base, lxtr_spec::specs::Image::value_number))]
-fn number(image: &[u8], s: u32) -> u32
-    requires whole { Whole image.now }
-    requires s_bound { s < slot_count image.now }
-    ensures base { result ≡ base image.now s }
-    ensures value { result ≡ value_number image.now s }
-{
-    base_word_at(image, s) % TOP_BIT
-}
-
-// How many borders a slot has: two if its prefix is a key, otherwise one.
-#[tactic(auto, unfolding(lxtr_spec::specs::Image::has_leaf))]
+// How many borders a slot has: two if its prefix is a key, otherwise one. Like all that is drawn of a slot or an entry, this needs only
+// that the bytes passed refusals 1 to 6, so an `Image` is not asked for.
 fn borders(image: &[u8], s: u32) -> u32
     requires whole { Whole image.now }
     requires s_bound { s < slot_count image.now }
     ensures { result ≡ cond (has_leaf image.now s) 2 1 }
 {
-    if TOP_BIT <= check_word_at(image, s) {
+    if has_leaf_at(image, s) {
         2
     } else {
         1
@@ -72,19 +42,20 @@ fn slot_line(image: &[u8], s: u32, wrong: bool, line: &mut [u8]) -> usize
     ensures { Appended line.old 0 (slot_line image.now s wrong) line.new result }
 {
     let tint = colour(wrong);
-    let parent = parent(image, s);
-    let number = number(image, s);
-    if is_leaf(image, s) {
+    let parent = parent_at(image, s);
+    if is_leaf_at(image, s) {
+        let value = value_number_at(image, s);
         return fill(
             b"  s% [label=\"slot %\\nvalue %\\nparent %\", style=rounded, color=\"#$\", fontcolor=\"#$\"];\n",
-            &[s, s, number, parent, tint, tint],
+            &[s, s, value, parent, tint, tint],
             line,
         );
     }
+    let base = base_at(image, s);
     let count = borders(image, s);
     fill(
         b"  s% [label=\"slot %\\nbase %\\nparent %\", peripheries=%, color=\"#$\", fontcolor=\"#$\"];\n",
-        &[s, s, number, parent, count, tint, tint],
+        &[s, s, base, parent, count, tint, tint],
         line,
     )
 }

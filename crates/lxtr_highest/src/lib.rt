@@ -17,7 +17,7 @@ fn end_bound(image: &Image, s: u32) -> u32
     requires { s < slot_count image.now }
     ensures { result ≡ cond (is_end image.now s) (value_number image.now s + 1) 0 }
 {
-    if is_end(image, s) {
+    if is_end(image.bytes(), s) {
         image.value_number(s) + 1
     } else {
         0
