@@ -36,14 +36,15 @@ pub record EntriesAnswer : Type 0 where
 unfoldable pub entries_of : List ℕ → List ℕ → List ℕ → EntriesAnswer
 entries_of b q t = let part = part_for t (query_value b q) in record { refusal = entries_refusal b q t; part = unless_refused (entries_refusal b q t) part [] }
 
--- Not in document 02: where that part lies, for a caller that cannot be handed a part of the table. The place of its first entry
--- among the entries, 0 if it has none, and how many it has; and whether the query has a value, which an empty part does not tell.
+-- where a part of the table lies
 pub record Located : Type 0 where
   pub refusal : ℕ
   pub valued : Bool
   pub first : ℕ
   pub count : ℕ
 
+-- Not in document 02: where that part lies, for a caller that cannot be handed a part of the table. The place of its first entry
+-- among the entries, 0 if it has none, and how many it has; and whether the query has a value, which an empty part does not tell.
 unfoldable pub located_by : List ℕ → Option ℕ → Located
 located_by t None = record { refusal = 0; valued = false; first = 0; count = 0 }
 located_by t (Some v) = record { refusal = 0; valued = true; first = cond (eqb (own_count t v) 0) 0 (table_offset t v); count = own_count t v }

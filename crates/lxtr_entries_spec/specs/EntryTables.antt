@@ -78,10 +78,11 @@ table_refusal b t =
     let form = refuse_if (form_wrong t) 26 offsets in
     first_refusal (highest_of b).refusal form
 
--- The answer is the number of entries. A refusal answers 0.
+-- what the check of a table answers
 pub record TableVerdict : Type 0 where
   pub refusal : ℕ
   pub entries : ℕ
 
+-- The answer is the number of entries. A refusal answers 0.
 unfoldable pub table_verdict_of : List ℕ → List ℕ → TableVerdict
 table_verdict_of b t = record { refusal = table_refusal b t; entries = unless_refused (table_refusal b t) (entry_count t) 0 }

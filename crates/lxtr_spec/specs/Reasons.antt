@@ -30,11 +30,12 @@ reason_from b i n (x ∷ xs) = elim (step_by b n x) [ None ↦ stopped_at b i x 
 unfoldable pub reason_of : List ℕ → List ℕ → Reason
 reason_of b xs = cond (ltb max_labels (length xs)) TooLong (reason_from b 0 1 xs)
 
--- Refusals: 1 to 8, then 13, no reason and place 0;
+-- what is answered: a refusal, or a reason
 pub record Why : Type 0 where
   pub refusal : ℕ
   pub reason : Option Reason
 
+-- Refusals: 1 to 8, then 13, no reason and place 0;
 unfoldable pub why_of : List ℕ → List ℕ → Why
 why_of b q = let reason = reason_of b (labels_of q) in record { refusal = search_refusal b q; reason = unless_refused (search_refusal b q) (Some reason) None }
 

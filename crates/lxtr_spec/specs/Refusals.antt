@@ -202,11 +202,12 @@ unfoldable pub unless_refused {ℓ} : {A : Type ℓ} → ℕ → A → A → A
 unless_refused zero answer other = answer
 unless_refused (suc k) answer other = other
 
--- The check answers the number of pairs in the set of which the bytes are an image, or a refusal and 0. (Each pair has one end.)
--- Bytes pass it, and an image is accepted, when it answers no refusal.
+-- what the check answers
 pub record Verdict : Type 0 where
   pub refusal : ℕ
   pub pairs : ℕ
 
+-- The check answers the number of pairs in the set of which the bytes are an image, or a refusal and 0. (Each pair has one end.)
+-- Bytes pass it, and an image is accepted, when it answers no refusal.
 unfoldable pub check_of : List ℕ → Verdict
 check_of b = let pairs = end_count b in record { refusal = image_refusal b; pairs = unless_refused (image_refusal b) pairs 0 }

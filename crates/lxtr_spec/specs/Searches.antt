@@ -51,11 +51,12 @@ case_within b xs = case_at b (walk_within b xs)
 unfoldable pub value_within : List ℕ → List ℕ → Option ℕ
 value_within b xs = case_value (case_within b xs)
 
--- Refusals: 1 to 8 and 13 as before, beside the cases.
+-- what a lookup answers
 pub record Lookup : Type 0 where
   pub refusal : ℕ
   pub case : Case
 
+-- Refusals: 1 to 8 and 13 as before, beside the cases.
 unfoldable pub lookup_of : List ℕ → List ℕ → Lookup
 lookup_of b q =
     let case = case_within b (labels_of q) in
