@@ -23,9 +23,13 @@ fn limit_of(number: u8) -> u32 {
     0
 }
 
-// Prints the sentence of a refusal, without ending the line. No operation gives 0 or 26 to 28, so their texts are empty.
+// Prints the sentence of a refusal, without ending the line.
 pub fn print_refusal<E: Numbered>(refusal: E) {
-    let number = refusal.number();
+    print_numbered(refusal.number());
+}
+
+// The same by the number of the refusal. No operation gives 0 or 26 to 28, so their texts are empty.
+fn print_numbered(number: u8) {
     print_form(
         text_at(
             b"|\
@@ -64,6 +68,16 @@ pub fn print_refusal<E: Numbered>(refusal: E) {
     );
 }
 
+// Whether the fault of a refusal has a place: 9 to 12.
+pub fn has_place<E: Numbered>(refusal: E) -> bool {
+    number_has_place(refusal.number())
+}
+
+// The same by the number of the refusal.
+fn number_has_place(number: u8) -> bool {
+    (Refusal::WrongLabels.number() <= number) & (number <= Refusal::Unreachable.number())
+}
+
 // Prints where the fault lies, without ending the line.
 pub fn print_fault(fault: Fault) {
     match fault {
@@ -86,13 +100,21 @@ pub fn refuse<E: Numbered>(refusal: E) {
     refuse_at(refusal, None);
 }
 
-// The same, with a line for where the fault of an image lies.
+// The same, with a line for where the fault of an image lies, if the refusal is for a fault that has a place. An operation may
+// refuse the query before it finds the image's fault, so that there is a fault is not enough.
 pub fn refuse_at<E: Numbered>(refusal: E, fault: Option<Fault>) {
-    print_refusal(refusal);
+    let number = refusal.number();
+    print_numbered(number);
     print(b"\n");
+    if number_has_place(number) {
+        print_fault_line(fault);
+    }
+    say(Sentence::Refused);
+}
+
+fn print_fault_line(fault: Option<Fault>) {
     if let Some(place) = fault {
         print_fault(place);
         print(b"\n");
     }
-    say(Sentence::Refused);
 }
