@@ -51,7 +51,7 @@ impl Word<'_> {
     }
 }
 
-impl<'t> Words<'t> {
+impl Words<'_, '_> {
     // The length of the key list in bytes.
     fn list_length(&self) -> usize
         ensures { result ≡ length (key_list (keys_in self.now)) }
