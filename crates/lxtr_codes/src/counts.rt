@@ -6,12 +6,12 @@ ghost use Rattle.lxtr_build_laws.specs.CodeTables.{Rising, place_in};
 ghost use Rattle.lxtr_keys.specs.Keys.{labels_in};
 ghost use Rattle.lxtr_codes.specs.LabelCounting.{Countable, count_one, KeyCounted, Counted};
 
-use crate::guesses::{Guesses, find_guessed};
+use crate::guesses::find_guessed;
 use lxtr_keys::key::Key;
 use lxtr_keys::list::KeyList;
 
 // Adds one to the count of a label.
-fn count_label(labels: &[u32], guesses: &Guesses, counts: &mut [u32], label: u32)
+fn count_label(labels: &[u32], guesses: &[u32], counts: &mut [u32], label: u32)
     requires rising { Rising labels.now }
     requires label_in_bounds { place_in labels.now label < length counts.old }
     requires label_bound { get_or counts.old (place_in labels.now label) 0 + 1 < 2 ^ 32 }
@@ -22,7 +22,7 @@ fn count_label(labels: &[u32], guesses: &Guesses, counts: &mut [u32], label: u32
 }
 
 // Adds each label of a key to the counts, as often as it occurs there.
-fn count_key(key: &Key, labels: &[u32], guesses: &Guesses, counts: &mut [u32])
+fn count_key(key: &Key, labels: &[u32], guesses: &[u32], counts: &mut [u32])
     requires rising { Rising labels.now }
     requires countable { Countable (labels_in key.now) labels.now counts.old }
     ensures { KeyCounted (labels_in key.now) labels.now counts.old counts.new }
@@ -35,7 +35,7 @@ fn count_key(key: &Key, labels: &[u32], guesses: &Guesses, counts: &mut [u32])
 }
 
 // Counts the frequency of each label, starting from counts that are all zero.
-pub fn count_keys(keys: &KeyList, labels: &[u32], guesses: &Guesses, counts: &mut [u32])
+pub fn count_keys(keys: &KeyList, labels: &[u32], guesses: &[u32], counts: &mut [u32])
     requires labels_value { labels.now ≡ labels_used (pairs_of keys.now.bytes.now) [] }
     requires labels_in_bounds { length labels.now ≤ length counts.old }
     requires counts_value { counts.old ≡ replicate (length counts.old) 0 }

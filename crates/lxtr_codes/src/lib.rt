@@ -17,7 +17,7 @@ ghost use Rattle.lxtr_build_laws.specs.CodeTables.{table_size, MappedOr};
 ghost use Rattle.lxtr_codes.specs.Mapping.{CodedFront};
 
 use crate::counts::count_keys;
-use crate::guesses::Guesses;
+use crate::guesses::{Guesses, note_all};
 use crate::labels::gather_labels;
 use crate::ranks::{assign, rank};
 use lxtr_keys::list::KeyList;
@@ -31,7 +31,7 @@ pub const TABLE_SIZE: usize = MAX_LISTED + 1;
 fn code_labels(
     keys: &KeyList,
     labels: &[u32],
-    guesses: &mut Guesses,
+    guesses: &mut [u32],
     codes: &mut [u32],
     order: &mut [u32],
 )
@@ -41,7 +41,7 @@ fn code_labels(
 {
     let n = labels.len();
     let mut counts = [0u32; TABLE_SIZE];
-    guesses.note_all(labels);
+    note_all(labels, guesses);
     count_keys(keys, labels, guesses, &mut counts);
     rank(&counts[..n], order);
     assign(&order[..n], codes);
@@ -59,7 +59,7 @@ pub fn code_map(
     ensures sizes { (length labels.new ≡ table_size) × (length codes.new ≡ table_size) × (length order.new ≡ table_size) }
 {
     let mut guesses = Guesses::new();
-    let n = gather_labels(keys, labels, &mut guesses)?;
-    code_labels(keys, &labels[..n], &mut guesses, codes, order);
+    let n = gather_labels(keys, labels, &mut guesses.places)?;
+    code_labels(keys, &labels[..n], &mut guesses.places, codes, order);
     Ok(n)
 }

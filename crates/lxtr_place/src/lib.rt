@@ -17,7 +17,7 @@ ghost use Rattle.lxtr_place.specs.AllKeys.{StartsPut};
 
 use crate::groups::{Group, KeyGroup, Plan};
 use crate::work::Work;
-use lxtr_codes::guesses::Guesses;
+use lxtr_codes::guesses::{Guesses, note_all};
 use lxtr_codes::tables::Tables;
 use lxtr_fit::free_map::FreeSlots;
 use lxtr_fit::slots::slots_in;
@@ -51,7 +51,7 @@ pub fn place_all(tables: &Tables, work: &mut [u32]) -> Option<()>
     let mut starts = [0u32; MAX_KEYS + 1];
     put_starts(&tables.keys, &mut starts);
     let mut guesses = Guesses::new();
-    guesses.note_all(tables.labels);
+    note_all(tables.labels, &mut guesses.places);
     let plan = Plan {
         tables,
         starts: &starts,
