@@ -70,6 +70,13 @@ impl<'a> Labels<'a> {
         Labels { bytes: query }
     }
 
+    // How many labels are left.
+    pub fn left(&self) -> usize
+        ensures { result ≡ length self.now }
+    {
+        label_count(self.bytes)
+    }
+
     // Gives up the labels that are left.
     #[tactic(auto, using(lxtr_laws::specs::QueryLabels::labels_none))]
     pub fn clear(&mut self)

@@ -10,18 +10,19 @@ use lxtr_spec::{LENGTH_COUNT, MAX_LABELS, Match};
 use lxtr_walk::{step_by, value_at};
 use std::marker::Model;
 
-// The matches of a query, one after the other, shortest first; in a contract they are the list of those that are left.
+// The matches of a query, one after the other, shortest first; in a contract they are the list of those that are left. Of `count`
+// labels those are walked that are not left: a count of its own would be one number more that the walk has to keep.
 #[derive(Drop)]
 pub struct Matches<'a> {
     image: Image<'a>,
     first: Option<u32>,
     slot: u32,
-    walked: u32,
+    count: u32,
     labels: Labels<'a>,
 }
 
 impl<'a> Model for Matches<'a> {
-    ghost use Rattle.std.specs.Prelude.{List, ◌+◌, ◌++◌, ◌<◌, ◌≤◌, length};
+    ghost use Rattle.std.specs.Prelude.{List, ◌-◌, ◌++◌, ◌<◌, ◌≤◌, length};
     ghost use Rattle.lxtr_spec.specs.declared.Match.{Match};
     ghost use Rattle.lxtr_spec.specs.Labels.{max_labels};
     ghost use Rattle.lxtr_spec.specs.Image.{slot_count};
@@ -29,11 +30,11 @@ impl<'a> Model for Matches<'a> {
 
     ghost Value = { List Match };
 
-    // The value of the empty prefix, if it has one and has not been given; then what the walk meets from the slot on, which `walked` labels
-    // reached.
-    ghost view = { λ s. match_of 0 s.first ++ matches_after s.image s.slot s.walked s.labels };
+    // The value of the empty prefix, if it has one and has not been given; then what the walk meets from the slot on, which the labels that
+    // are not left reached.
+    ghost view = { λ s. match_of 0 s.first ++ matches_after s.image s.slot (s.count - length s.labels) s.labels };
 
-    ghost invariant = { λ s. (s.slot < slot_count s.image) × (s.walked + length s.labels ≤ max_labels) };
+    ghost invariant = { λ s. (s.slot < slot_count s.image) × (length s.labels ≤ s.count) × (s.count ≤ max_labels) };
 }
 
 impl<'a> Iterator for Matches<'a> {
@@ -57,10 +58,9 @@ impl<'a> Iterator for Matches<'a> {
                 return None;
             };
             self.slot = slot;
-            self.walked += 1;
             if let Some(value) = value_at(&self.image, slot) {
                 return Some(Match {
-                    length: self.walked,
+                    length: self.count - self.labels.left() as u32,
                     value,
                 });
             }
@@ -83,7 +83,7 @@ impl<'a> Matches<'a> {
             image,
             first,
             slot,
-            walked: 0,
+            count: labels.left() as u32,
             labels,
         }
     }
