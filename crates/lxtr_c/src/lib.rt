@@ -21,7 +21,8 @@ use lxtr_host::numbers::{
 };
 use lxtr_host::places::{put_first, put_places};
 use lxtr_position::Position;
-use lxtr_search::{longest, lookup, prefixes};
+use lxtr_search::matches::{Prefixes, put_prefixes};
+use lxtr_search::{longest, lookup};
 use lxtr_spec::refusals::{Numbered, Refusal};
 use lxtr_walk::{open, value_at, walk_within};
 use lxtr_why::why;
@@ -99,18 +100,30 @@ pub extern "C" fn lxtr_why(image: &[u8], query: &[u8]) -> u64
     why_numbered(why(image, query))
 }
 
+// The number of a refusal, or 0 for none.
+fn refusal_number(outcome: Result<(), Refusal>) -> u8
+    ensures { result ≡ refusal_of outcome }
+{
+    match outcome {
+        Ok(()) => 0,
+        Err(refusal) => refusal.number(),
+    }
+}
+
 // Prefixes: how many there are. Their lengths and values are put into `places` alternately, as many as fit.
 #[unsafe(no_mangle)]
+#[tactic(auto, using(crate::specs::PrefixWords::prefixes_refused, crate::specs::PrefixWords::prefixes_passed))]
 pub extern "C" fn lxtr_prefixes(image: &[u8], query: &[u8], places: &mut [u32]) -> u64
     ensures { record { number = result; places = places.new } ≡ host_prefixes_of image.now query.now places.old }
 {
-    match prefixes(image, query) {
-        Ok(found) => {
-            put_places(found.places(), places);
-            host_number(0, false, false, found.as_slice().len() as u32)
-        }
-        Err(refusal) => host_number(refusal.number(), false, false, 0),
+    let mut found = Prefixes::new();
+    let refusal = refusal_number(put_prefixes(image, query, &mut found));
+    let number = host_number(refusal, false, false, found.len() as u32);
+    if refusal != 0 {
+        return number;
     }
+    put_places(found.lengths(), found.values(), places);
+    number
 }
 
 // A typing position without labels.

@@ -4,7 +4,7 @@ use Prim.Native.Nat.{ℕ, zero, suc, ◌+◌, ◌*◌, ◌/◌, ◌≤◌, ◌<�
 use Rattle.std.proofs.Math.Nat.{add-zero}
 use Rattle.std.proofs.Common.{zero-add, add-one, ◌∙◌, length-set, take-suc, drop-cons, length-take-le}
 use native.Mathlib.Omega.{arith}
-use Rattle.std.specs.Prelude.{◌≡◌, List, [], ◌∷◌, ◌++◌, length, take, drop, set, map}
+use Rattle.std.specs.Prelude.{◌≡◌, List, [], ◌∷◌, ◌++◌, length, take, drop, set}
 use Rattle.std.proofs.Math.Path.{refl, sym, ap}
 use Rattle.std.proofs.Math.ListN.{get_or}
 use Rattle.std.proofs.Math.Seq.{take-nil, append_snoc}
@@ -13,19 +13,6 @@ use Rattle.lxtr_spec.specs.Ranges.{concat_from}
 use Rattle.lxtr_spec.specs.Labels.{length_count}
 use Rattle.lxtr_laws.specs.Overlays.{all_words}
 use Rattle.lxtr_spec.specs.HostNumbers.{place_words, alternately, at_front}
-use Rattle.lxtr_spec.specs.declared.Match.{Match}
-
-abbrev pub length_in : Match → ℕ
-length_in m = m.length
-
-abbrev pub value_in : Match → ℕ
-value_in m = m.value
-
--- a number of the match at a place, among those of all matches
-pub in_match : (f : Match → ℕ) (ms : List Match) (i : ℕ) (d : Match) → f (get_or ms i d) ≡ get_or (map f ms) i (f d)
-in_match f [] i d = refl
-in_match f (m ∷ ms) zero d = refl
-in_match f (m ∷ ms) (suc i) d = in_match f ms i d
 
 module _ (xs ys : List ℕ) where
   words_length : (n k : ℕ) → length (concat_from n k (place_words xs ys)) ≡ 2 * n

@@ -1,26 +1,25 @@
 // Numbers put into lent words: the matches of prefixes, as alternating length and value; or one number.
-ghost use Rattle.std.specs.Prelude.{◌≡◌, [], ◌∷◌, map};
+ghost use Rattle.std.specs.Prelude.{◌≡◌, [], ◌∷◌};
 ghost use Rattle.lxtr_spec.specs.HostNumbers.{alternately, at_front};
-ghost use Rattle.lxtr_host.specs.PlaceWords.{length_in, value_in};
 
-use lxtr_spec::{LENGTH_COUNT, Match};
+use lxtr_spec::LENGTH_COUNT;
 
 // The number of words for all lengths and values.
 const WORD_COUNT: usize = 2 * LENGTH_COUNT;
 
 // Writes lengths and values to the front of `places`, as many as fit. Words after them stay.
-pub fn put_places(matches: &[Match; LENGTH_COUNT], places: &mut [u32])
-    ensures { places.new ≡ at_front (alternately (map length_in matches.now) (map value_in matches.now)) places.old }
+pub fn put_places(lengths: &[u32; LENGTH_COUNT], values: &[u32; LENGTH_COUNT], places: &mut [u32])
+    ensures { places.new ≡ at_front (alternately lengths.now values.now) places.old }
 {
     let count = WORD_COUNT.min(places.len());
     let pairs = count / 2;
     for i in 0..pairs {
-        places[2 * i] = matches[i].length;
-        places[2 * i + 1] = matches[i].value;
+        places[2 * i] = lengths[i];
+        places[2 * i + 1] = values[i];
     }
     // an odd number of words ends with a length
     if 2 * pairs < count {
-        places[2 * pairs] = matches[pairs].length;
+        places[2 * pairs] = lengths[pairs];
     }
 }
 

@@ -93,11 +93,10 @@ pub fn prefixes(image: &[u8], query: &[u8]) {
     match lxtr_search::prefixes(image, query) {
         Err(refusal) => refuse(refusal),
         Ok(prefixes) => {
-            let matches = prefixes.as_slice();
-            for m in matches {
+            for m in prefixes.iter() {
                 print_prefix(query, m.length, m.value);
             }
-            end_found(!matches.is_empty());
+            end_found(prefixes.len() != 0);
         }
     }
 }

@@ -1,17 +1,14 @@
 -- The prefixes of a query that have a value, as one walk finds them: each slot on the way adds its own match. If the walk stops, no
 -- longer prefix has a value.
-use Rattle.std.specs.Prelude.{ℕ, Bool, true, false, ltb, suc, ◌+◌, ◌*◌, ◌-◌, min, ◌<◌, ◌≤◌, ◌≡◌, refl, List, [], ◌∷◌, ◌++◌, map, length, take, set, replicate, Option, Some, None}
-use Rattle.std.proofs.Common.{sym, ap, ◌∙◌, arith, le_refl, append-nil, append_assoc, length-append, length-set, take_all, length-take}
-use Rattle.std.proofs.lemmas.List.{map-append, take-append-le, take_more_set, length-take-le, length-replicate}
-use Rattle.std.proofs.Math.Seq.{set-append_seam}
-use native.Mathlib.Nat.{sub-zero}
+use Rattle.std.specs.Prelude.{ℕ, Bool, true, false, ltb, suc, ◌+◌, ◌*◌, min, ◌≤◌, ◌≡◌, refl, List, [], ◌∷◌, ◌++◌, map, length, take, Option, Some, None}
+use Rattle.std.proofs.Common.{sym, ◌∙◌, arith, le_refl, append-nil, append_assoc, length-append, take_all, length-take}
+use Rattle.std.proofs.lemmas.List.{map-append, take-append-le}
 use borrow.Author.Tests.{ltb-true, ltb-false}
 use Rattle.lxtr_spec.specs.Ranges.{concat_from}
 use Rattle.lxtr_spec.specs.Labels.{max_labels, length_count, labels_of}
 use Rattle.lxtr_spec.specs.Walks.{step_by, walk, value_at, value_reached, value_of}
 use Rattle.lxtr_spec.specs.Searches.{length_match, match_at, matches, prefix_matches}
 use Rattle.lxtr_spec.specs.declared.Match.{Match}
-use Rattle.lxtr_laws.specs.RangeTests.{more}
 use Rattle.lxtr_laws.specs.QueryLabels.{label_count_lem, front_labels}
 
 abbrev pub pair_of : Match → ℕ × ℕ
@@ -46,16 +43,6 @@ counted q = take max_labels (labels_of q)
 -- the matches of a query
 unfoldable pub all_matches : List ℕ → List ℕ → List Match
 all_matches b q = matches_on b (Some 1) 0 (counted q)
-
--- a place that is not used
-abbrev pub no_match : Match
-no_match = record { length = 0; value = 0 }
-
--- the first n places are used
-pub record Filled (n : ℕ) (places : List Match) : Type 0 where
-  pub within : n ≤ length_count
-  pub all : length places ≡ length_count
-  pub unused : places ≡ take n places ++ replicate (length_count - n) no_match
 
 one_pair : (k : ℕ) (o : Option ℕ) → map pair_of (match_of k o) ≡ length_match k o
 unfolding match_of length_match
@@ -139,31 +126,6 @@ unfolding matches_on
 on_count b None k xs = omega arith
 on_count b (Some n) k [] = at_most_one k (value_at b n)
 on_count b (Some n) k (x ∷ xs) = simp length-append (omega (arith, at_most_one k (value_at b n), on_count b (step_by b n x) (k + 1) xs))
-
--- no place is used
-pub filled_none : Filled 0 (replicate length_count no_match)
-filled_none = record { within = omega arith; all = length-replicate length_count no_match; unused = rw (sub-zero length_count) }
-
--- one more place is used
-module _ (n : ℕ) (places : List Match) (m : Match) (room : n < length_count) (f : Filled n places) where
-  pub used : length (take n places) ≡ n
-  used = length-take-le n places (omega arith)
-
-  next_place : set places n m ≡ take n places ++ m ∷ replicate (length_count - (n + 1)) no_match
-  next_place =
-      ap (λ (l : List Match). set l n m) (rw (more length_count n room) at f.unused)
-      ∙ ap (λ (i : ℕ). set (take n places ++ no_match ∷ replicate (length_count - (n + 1)) no_match) i m) (sym used)
-      ∙ set-append_seam (take n places) _ _ m
-
-  pub filled_take : take (n + 1) (set places n m) ≡ take n places ++ m ∷ []
-  filled_take = take_more_set places n m (omega arith)
-
-  pub filled_more : Filled (n + 1) (set places n m)
-  filled_more = record { within = omega arith; all = length-set places n m ∙ f.all; unused = rw filled_take (next_place ∙ sym (append_assoc (take n places) (m ∷ []) (replicate (length_count - (n + 1)) no_match))) }
-
--- how many places are used
-pub used_count : (n : ℕ) (places : List Match) → Filled n places → length (take n places) ≡ n
-used_count n places f = length-take-le n places (omega arith)
 
 -- the labels that count are those of the front part of the query
 module _ (q : List ℕ) (e : ℕ) (end : e ≡ min (length q) (4 * max_labels)) where

@@ -13,7 +13,7 @@ ghost use Rattle.lxtr_spec.specs.declared.Case.TheVariants.{Neither};
 ghost use Rattle.lxtr_search.specs.Answers.{prefixes_given, part_given};
 
 use crate::cases::case_at;
-use crate::matches::{Matches, Prefixes};
+use crate::matches::{Matches, Prefixes, put_prefixes};
 use lxtr_spec::Case;
 use lxtr_spec::refusals::Refusal;
 use lxtr_walk::{open, walk_within};
@@ -31,11 +31,8 @@ pub fn lookup(image: &[u8], query: &[u8]) -> Result<Case, Refusal>
 pub fn prefixes(image: &[u8], query: &[u8]) -> Result<Prefixes, Refusal>
     ensures { prefixes_given result ≡ prefixes_of image.now query.now }
 {
-    let opened = open(image, query)?;
     let mut found = Prefixes::new();
-    for m in Matches::of(opened, query) {
-        found.push(m);
-    }
+    put_prefixes(image, query, &mut found)?;
     Ok(found)
 }
 

@@ -1,13 +1,17 @@
 // The prefixes of a query that have a value. One walk finds them all, because it passes the slot of each prefix.
-ghost use Rattle.std.specs.Prelude.{◌≡◌, ◌<◌, ◌≤◌, ◌-◌, ◌∷◌, ◌++◌, [], length, replicate};
+ghost use Rattle.std.specs.Prelude.{◌≡◌, ◌<◌, ◌≤◌, ◌∷◌, ◌++◌, [], length};
 ghost use Rattle.std.specs.Iterator.{YieldsFirst, item_count};
+ghost use Rattle.lxtr_spec.specs.Answers.{refusal_of};
 ghost use Rattle.lxtr_spec.specs.Labels.{length_count};
-ghost use Rattle.lxtr_search.specs.Matches.{all_matches, no_match};
+ghost use Rattle.lxtr_spec.specs.Searches.{prefixes_of};
+ghost use Rattle.lxtr_search.specs.Matches.{all_matches};
+ghost use Rattle.lxtr_search.specs.Places.{length_places, value_places};
 
 use lxtr_bytes::labels::Labels;
 use lxtr_image::Image;
+use lxtr_spec::refusals::Refusal;
 use lxtr_spec::{LENGTH_COUNT, MAX_LABELS, Match};
-use lxtr_walk::{step_by, value_at};
+use lxtr_walk::{open, step_by, value_at};
 use std::marker::Model;
 
 // The matches of a query, one after the other, shortest first; in a contract they are the list of those that are left. Of `count`
@@ -89,37 +93,36 @@ impl<'a> Matches<'a> {
     }
 }
 
-// The matches that `prefixes` found; in a contract they are their list. There is a place for each possible length, and the places that
-// are not used are zero.
+// The matches that were found; in a contract they are their list. Each of the two arrays has a place for each possible length. They are
+// filled from the front, and the places that are not used are zero.
 #[derive(Drop)]
 pub struct Prefixes {
     count: usize,
-    matches: [Match; LENGTH_COUNT],
+    lengths: [u32; LENGTH_COUNT],
+    values: [u32; LENGTH_COUNT],
 }
 
 impl Model for Prefixes {
     ghost use Rattle.std.specs.Prelude.{List, take};
     ghost use Rattle.lxtr_spec.specs.declared.Match.{Match};
-    ghost use Rattle.lxtr_search.specs.Matches.{Filled};
+    ghost use Rattle.lxtr_search.specs.Places.{Filled, paired};
 
     ghost Value = { List Match };
 
-    ghost view = { λ s. take s.count s.matches };
+    ghost view = { λ s. paired (take s.count s.lengths) (take s.count s.values) };
 
-    ghost invariant = { λ s. Filled s.count s.matches };
+    ghost invariant = { λ s. Filled s.count s.lengths s.values };
 }
 
 impl Prefixes {
     // No matches.
-    pub(crate) fn new() -> Self
+    pub fn new() -> Self
         ensures { result ≡ [] }
     {
         Prefixes {
             count: 0,
-            matches: [Match {
-                length: 0,
-                value: 0,
-            }; LENGTH_COUNT],
+            lengths: [0; LENGTH_COUNT],
+            values: [0; LENGTH_COUNT],
         }
     }
 
@@ -128,22 +131,91 @@ impl Prefixes {
         requires { length self.old < length_count }
         ensures { self.new ≡ self.old ++ m ∷ [] }
     {
-        self.matches[self.count] = m;
+        self.lengths[self.count] = m.length;
+        self.values[self.count] = m.value;
         self.count += 1;
     }
 
-    pub fn as_slice(&self) -> &[Match]
-        ensures value { result.now ≡ self.now }
+    // How many matches there are.
+    pub fn len(&self) -> usize
+        ensures value { result ≡ length self.now }
         ensures limit { length self.now ≤ length_count }
     {
-        &self.matches[..self.count]
+        self.count
     }
 
-    // The places, of which those that are not used are zero.
-    pub fn places(&self) -> &[Match; LENGTH_COUNT]
-        ensures value { result.now ≡ self.now ++ replicate (length_count - length self.now) no_match }
+    // The lengths in all places, of which those that are not used are zero.
+    pub fn lengths(&self) -> &[u32; LENGTH_COUNT]
+        ensures value { result.now ≡ length_places self.now }
         ensures limit { length self.now ≤ length_count }
     {
-        &self.matches
+        &self.lengths
     }
+
+    // The values in the same places.
+    pub fn values(&self) -> &[u32; LENGTH_COUNT]
+        ensures value { result.now ≡ value_places self.now }
+        ensures limit { length self.now ≤ length_count }
+    {
+        &self.values
+    }
+
+    // The matches, one after the other.
+    pub fn iter(&self) -> Iter<'_>
+        ensures value { result ≡ self.now }
+        ensures limit { length self.now ≤ length_count }
+    {
+        Iter {
+            lengths: &self.lengths[..self.count],
+            values: &self.values[..self.count],
+        }
+    }
+}
+
+// The matches of a `Prefixes`, one after the other; in a contract they are the list of those that are left.
+#[derive(Drop)]
+pub struct Iter<'a> {
+    lengths: &'a [u32],
+    values: &'a [u32],
+}
+
+impl<'a> Model for Iter<'a> {
+    ghost use Rattle.std.specs.Prelude.{List};
+    ghost use Rattle.lxtr_spec.specs.declared.Match.{Match};
+    ghost use Rattle.lxtr_search.specs.Places.{paired};
+
+    ghost Value = { List Match };
+
+    ghost view = { λ s. paired s.lengths.now s.values.now };
+}
+
+impl<'a> Iterator for Iter<'a> {
+    type Item = Match;
+
+    ghost next_gives = { YieldsFirst (λ s. s) };
+
+    ghost remaining = { item_count (λ s. s) };
+
+    fn next(&mut self) -> Option<Match> {
+        let (length, lengths) = self.lengths.split_first()?;
+        let (value, values) = self.values.split_first()?;
+        self.lengths = lengths;
+        self.values = values;
+        Some(Match {
+            length: *length,
+            value: *value,
+        })
+    }
+}
+
+// What `prefixes` does, but into lent matches, so that the arrays are not copied. What they held before is gone, after a refusal too.
+pub fn put_prefixes(image: &[u8], query: &[u8], found: &mut Prefixes) -> Result<(), Refusal>
+    ensures { record { refusal = refusal_of result; count = length found.new; lengths = length_places found.new; values = value_places found.new } ≡ prefixes_of image.now query.now }
+{
+    *found = Prefixes::new();
+    let opened = open(image, query)?;
+    for m in Matches::of(opened, query) {
+        found.push(m);
+    }
+    Ok(())
 }

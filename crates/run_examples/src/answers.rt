@@ -6,7 +6,7 @@ use crate::rooms::{
 };
 use lxtr_search::matches::Prefixes;
 use lxtr_spec::refusals::{Numbered, Refusal};
-use lxtr_spec::{Case, Fault, Listing, Match};
+use lxtr_spec::{Case, Fault, LENGTH_COUNT, Listing};
 
 // The most bytes of an image that are printed.
 const PRINTED: usize = 168;
@@ -59,19 +59,19 @@ pub fn lookup(image: &[u8], query: &[u8]) {
     say_case(answer.unwrap_or(Case::Neither));
 }
 
-fn say_match(found: Match) {
-    say_number(Word::Open, found.length as u64);
-    say_number(Word::Comma, found.value as u64);
+fn say_match(length: u32, value: u32) {
+    say_number(Word::Open, length as u64);
+    say_number(Word::Comma, value as u64);
     say(Word::Close);
 }
 
 // Prints each place that is filled or not zero.
 fn say_prefixes(found: Prefixes) {
-    let count = found.as_slice().len();
-    print_number(count as u64);
-    for (i, place) in found.places().iter().enumerate() {
-        if (i < count) | (place.length != 0) | (place.value != 0) {
-            say_match(*place);
+    let (lengths, values) = (found.lengths(), found.values());
+    print_number(found.len() as u64);
+    for i in 0..LENGTH_COUNT {
+        if (i < found.len()) | (lengths[i] != 0) | (values[i] != 0) {
+            say_match(lengths[i], values[i]);
         }
     }
 }

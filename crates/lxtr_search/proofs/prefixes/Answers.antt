@@ -1,14 +1,11 @@
--- A refusal is passed on; otherwise the matches found are all.
-use Rattle.std.proofs.Common.{refl, append-nil}
+-- A refusal is passed on.
+use Rattle.std.proofs.Common.{[]}
 use Rattle.lxtr_laws.specs.Failures.{number_not_0}
-use Rattle.lxtr_laws.specs.SearchReturns.{passed_err, prefixes_refused, prefixes_passed}
-use Rattle.lxtr_search.specs.Matches.{all_pairs}
+use Rattle.lxtr_laws.specs.SearchReturns.{passed_err, prefixes_refused}
+use Rattle.lxtr_search.specs.Answers.{found_answer, found_refusal}
 use Rattle.lxtr_search.proofs.prefixes.Goals as goal
 
-pub returns-in_err-opened : goal.returns-in_err-opened
-returns-in_err-opened c = rw (passed_err _ _ c.from_residual.ensures.1) (prefixes_refused _ _ _ c.in_err-opened.ensures.refusal (number_not_0 _) _ refl)
-
-pub returns : goal.returns
-returns c =
-    let all = rw (c.in-None.ensures.steps.0, append-nil) at c.loop-m.invariant.0 in
-    prefixes_passed _ _ _ c.in_ok-opened.ensures.refusal refl _ (rw (all, all_pairs))
+pub returns-in_err-put_prefixes : goal.returns-in_err-put_prefixes
+returns-in_err-put_prefixes c =
+    rw (passed_err _ _ c.from_residual.ensures.1)
+    (prefixes_refused _ _ _ (found_refusal _ _ _ _ c.in_err-put_prefixes.ensures) (number_not_0 _) _ (found_answer _ []))
