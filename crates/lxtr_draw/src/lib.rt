@@ -28,11 +28,7 @@ fn borders(image: &[u8], s: u32) -> u32
     requires s_bound { s < slot_count image.now }
     ensures { result ≡ cond (has_leaf image.now s) 2 1 }
 {
-    if has_leaf_at(image, s) {
-        2
-    } else {
-        1
-    }
+    if has_leaf_at(image, s) { 2 } else { 1 }
 }
 
 // Writes the line of a slot, with its base or value and its parent.

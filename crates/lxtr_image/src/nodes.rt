@@ -11,7 +11,6 @@ use crate::sections::{base_word_at, check_word_at, slot_count};
 pub const TOP_BIT: u32 = 0x8000_0000;
 
 // What a slot has, of bytes that passed refusals 1 to 6. An `Image` has passed 7 and 8 too, which none of this needs.
-#[tactic(auto, unfolding(lxtr_spec::specs::Image::is_leaf))]
 pub fn is_leaf_at(image: &[u8], s: u32) -> bool
     requires whole { Whole image.now }
     requires s_bound { s < slot_count image.now }
@@ -20,7 +19,6 @@ pub fn is_leaf_at(image: &[u8], s: u32) -> bool
     TOP_BIT <= base_word_at(image, s)
 }
 
-#[tactic(auto, unfolding(lxtr_spec::specs::Image::has_leaf))]
 pub fn has_leaf_at(image: &[u8], s: u32) -> bool
     requires whole { Whole image.now }
     requires s_bound { s < slot_count image.now }
