@@ -7,7 +7,7 @@ mod refusals; // the sentence of each refusal, and of each place at fault
 use lxtr_lines::keys::append_text;
 use lxtr_output::{print, text_at};
 use lxtr_text::{LINE_ROOM, Line};
-pub use refusals::{has_place, print_fault, print_refusal, refuse, refuse_at};
+pub use refusals::{fault_number, has_place, print_fault, print_refusal, refuse, refuse_at};
 
 // The sentences, in the order of their texts in `tell`. Those up to `Failed` are last lines, each one word that scripts can test.
 #[derive(Clone, Copy, Debug, PartialEq, Eq)]

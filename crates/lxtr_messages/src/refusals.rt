@@ -78,20 +78,35 @@ fn number_has_place(number: u8) -> bool {
     (Refusal::WrongLabels.number() <= number) & (number <= Refusal::Unreachable.number())
 }
 
+// The number that the sentence of a fault names first.
+pub fn fault_number(fault: Fault) -> u32 {
+    match fault {
+        Fault::Label(place) => place,
+        Fault::Slot(s) => s,
+        Fault::Offset(p) => p,
+        Fault::Entry(_, j) => j,
+        Fault::Unlisted(s) => s,
+        Fault::Childless(s) => s,
+        Fault::RootBase => 1,
+        Fault::Unreachable(s) => s,
+    }
+}
+
 // Prints where the fault lies, without ending the line.
 pub fn print_fault(fault: Fault) {
+    let n = fault_number(fault);
     match fault {
-        Fault::Label(place) => print_form(b"place % of the code map", &[place]),
-        Fault::Slot(s) => print_form(b"slot %", &[s]),
-        Fault::Offset(p) => print_form(b"the list of slot % ends before it begins", &[p]),
-        Fault::Entry(p, j) => print_form(
+        Fault::Label(_) => print_form(b"place % of the code map", &[n]),
+        Fault::Slot(_) => print_form(b"slot %", &[n]),
+        Fault::Offset(_) => print_form(b"the list of slot % ends before it begins", &[n]),
+        Fault::Entry(p, _) => print_form(
             b"entry % of the children, in the list of slot %",
-            &[j, p],
+            &[n, p],
         ),
-        Fault::Unlisted(s) => print_form(b"slot % is in no list", &[s]),
-        Fault::Childless(s) => print_form(b"slot % is not an end and has an empty list", &[s]),
-        Fault::RootBase => print_form(b"slot 1 has an empty list, but its base is not 0", &[]),
-        Fault::Unreachable(s) => print_form(b"slot %", &[s]),
+        Fault::Unlisted(_) => print_form(b"slot % is in no list", &[n]),
+        Fault::Childless(_) => print_form(b"slot % is not an end and has an empty list", &[n]),
+        Fault::RootBase => print_form(b"slot % has an empty list, but its base is not 0", &[n]),
+        Fault::Unreachable(_) => print_form(b"slot %", &[n]),
     }
 }
 

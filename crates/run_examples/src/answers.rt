@@ -4,6 +4,7 @@ use crate::output::{Word, print_bytes, print_number, say, say_number, say_refusa
 use crate::rooms::{
     FILLING_BYTE, FILLING_WORD, LISTING_ROOM, OUTPUT_ROOM, WORK_WORDS, front, is_left, words_are,
 };
+use lxtr_messages::fault_number;
 use lxtr_search::matches::Prefixes;
 use lxtr_spec::refusals::{Numbered, Refusal};
 use lxtr_spec::{Case, Fault, LENGTH_COUNT, Listing};
@@ -18,19 +19,23 @@ pub fn header(image: &[u8]) {
     });
 }
 
-fn say_fault(fault: Fault) {
+fn fault_word(fault: Fault) -> Word {
     match fault {
-        Fault::Label(i) => say_number(Word::Label, i as u64),
-        Fault::Slot(s) => say_number(Word::Slot, s as u64),
-        Fault::Offset(p) => say_number(Word::Offsets, p as u64),
-        Fault::Entry(p, j) => {
-            say_number(Word::Child, j as u64);
-            say_number(Word::InList, p as u64);
-        }
-        Fault::Unlisted(s) => say_number(Word::Unlisted, s as u64),
-        Fault::Childless(s) => say_number(Word::Childless, s as u64),
-        Fault::RootBase => say_number(Word::RootBase, 1),
-        Fault::Unreachable(s) => say_number(Word::Unreachable, s as u64),
+        Fault::Label(_) => Word::Label,
+        Fault::Slot(_) => Word::Slot,
+        Fault::Offset(_) => Word::Offsets,
+        Fault::Entry(_, _) => Word::Child,
+        Fault::Unlisted(_) => Word::Unlisted,
+        Fault::Childless(_) => Word::Childless,
+        Fault::RootBase => Word::RootBase,
+        Fault::Unreachable(_) => Word::Unreachable,
+    }
+}
+
+fn say_fault(fault: Fault) {
+    say_number(fault_word(fault), fault_number(fault) as u64);
+    if let Fault::Entry(p, _) = fault {
+        say_number(Word::InList, p as u64);
     }
 }
 
