@@ -1,9 +1,10 @@
 -- The library's reading of a text in UTF-8 is that of the definitions: how many labels there are, and the labels in the room.
-use Rattle.std.specs.Prelude.{ℕ, ◌+◌, ◌*◌, ◌/◌, ◌≤◌, ◌<◌, ◌≡◌, refl, List, [], ◌∷◌, ◌++◌, true, length, drop, get_or, Option, Some, None, Ok, Err}
-use Rattle.std.proofs.Common.{arith, sym, ap, ◌∙◌, ⊎_elim, le_refl, zero-add, take_all}
+use Rattle.std.specs.Prelude.{ℕ, suc, ◌+◌, ◌*◌, ◌/◌, ◌≤◌, ◌<◌, ◌≡◌, refl, List, [], ◌∷◌, ◌++◌, true, length, drop, get_or, Option, Some, None, Ok, Err}
+use Rattle.std.proofs.Common.{arith, sym, ap, ◌∙◌, ⊎_elim, le-leb, le_refl, zero-add, take_all}
 use borrow.Author.Tests.{lt-ltb, le-ltb}
+use Rattle.std.proofs.lemmas.Bool.{lt-leb}
 use Rattle.std.proofs.lemmas.Bool.Decides.{nat_tests}
-use Rattle.std.specs.Str.{IsUtf8, chars}
+use Rattle.std.specs.Str.{IsUtf8, IsAscii, chars}
 use Rattle.std.proofs.lemmas.List.{get_or_default}
 use Rattle.std.proofs.lemmas.Str.{encodes-chars, scalars-chars}
 use lib.Utf8.{scalar, scalars, encode, encodes}
@@ -16,6 +17,7 @@ use Rattle.lxtr_laws.specs.Tests.{and_is_true}
 use Rattle.lxtr_command_spec.specs.Utf8.{DecodingAnswer, utf8, text_of, labels_of_text, counted, count_of, decoding, decoding_of, decoded_in}
 use Rattle.lxtr_command_spec.specs.declared.TextProblem.TheVariants.{NotUtf8, NoRoom}
 use Rattle.lxtr_utf8.specs.Octets.{Scalars}
+use Rattle.lxtr_utf8.specs.Fronts.{one_byte}
 use Rattle.lxtr_utf8.specs.Encoded.{rfc3629}
 
 -- the labels of a text; none if it is not UTF-8
@@ -65,6 +67,30 @@ module _ (t : List ℕ) (wrong : IsUtf8 t → ⊥) where
   pub counted_wrong : decoded_in (Err NotUtf8) ≡ count_of t
   unfolding count_of counted
   counted_wrong = rw (no_labels, counted) refl
+
+-- ---- the text of bytes below 80
+
+ascii_scalar : (x : ℕ) → x < 0x80 → is_scalar x ≡ true
+unfolding is_scalar
+ascii_scalar x h = rw (le-leb x 0x10FFFF (omega arith), lt-leb 0xD800 x (omega arith)) refl
+
+ascii_scalars : (t : List ℕ) → IsAscii t → Scalars t
+ascii_scalars [] a x m = absurd (Memᴰ.not-nil m)
+ascii_scalars (y ∷ t) a x m = ⊎_elim (λ same. rw same (ascii_scalar y (a 0))) (ascii_scalars t (λ i. a (suc i)) x) (Memᴰ.cases_cons m)
+
+ascii_text : (t : List ℕ) → IsAscii t → text_of t ≡ t
+unfolding text_of
+ascii_text [] a = refl
+ascii_text (y ∷ t) a = rw (one_byte y (a 0)) (ap (λ (l : List ℕ). y ∷ l) (ascii_text t (λ i. a (suc i))))
+
+-- the labels of a text whose bytes are all below 80 are its bytes
+module _ (t : List ℕ) (ascii : IsAscii t) where
+  pub ascii_labels : labels_of_text t ≡ Some t
+  ascii_labels = ((rfc3629 t).reading t).1 (ascii_scalars t ascii, ascii_text t ascii)
+
+  pub counted_ascii : decoded_in (Ok (length t)) ≡ count_of t
+  unfolding count_of counted
+  counted_ascii = rw (ascii_labels, counted) refl
 
 -- ---- the labels in the room
 

@@ -20,6 +20,10 @@ const MARK: &[u8] = b"\xEF\xBB\xBF";
 pub fn count_labels(text: &[u8]) -> Result<usize, TextProblem>
     ensures { decoded_in result ≡ count_of text.now }
 {
+    // Most lines are ASCII or empty: these have as many labels as bytes.
+    if text.is_ascii() {
+        return Ok(text.len());
+    }
     match str::from_utf8(text) {
         Ok(s) => Ok(s.chars().count()),
         Err(_) => Err(TextProblem::NotUtf8),

@@ -2,8 +2,11 @@
 use Rattle.std.proofs.Common.{rules, ◌≡◌, length}
 use Rattle.std.specs.Str.{chars}
 use Rattle.std.proofs.lemmas.Str.{chars_from_encodes}
-use Rattle.lxtr_utf8.specs.Decoding.{counted_ok, counted_wrong}
+use Rattle.lxtr_utf8.specs.Decoding.{counted_ascii, counted_ok, counted_wrong}
 use Rattle.lxtr_utf8.proofs.count_labels.Goals as goal
+
+pub returns-then-is_ascii : goal.returns-then-is_ascii
+returns-then-is_ascii c = counted_ascii c.args.text.now (rw c.if-is_ascii.true at c.is_ascii.ensures.cases)
 
 pub returns-in-Ok : goal.returns-in-Ok
 returns-in-Ok c =
