@@ -1,9 +1,10 @@
 -- The check as the code makes it. Results of calls are variables: each law says which definition equals what one return computes.
-use Rattle.std.specs.Prelude.{ℕ, ◌≡◌, List, Result}
+use Rattle.std.specs.Prelude.{ℕ, ◌≡◌, List, Result, Bool, ◌&&◌}
 use Rattle.std.specs.Result.{IsErrAnd}
 use Rattle.std.proofs.Common.{sym}
 use Rattle.std.proofs.lemmas.Result.{err_from_is_err_and}
-use Rattle.lxtr_spec.specs.Refusals.{unless_refused, header_refusal, body_refusal, image_refusal, end_count, check_of, Verdict}
+use Rattle.lxtr_spec.specs.Image.{is_leaf}
+use Rattle.lxtr_spec.specs.Refusals.{unless_refused, header_refusal, body_refusal, image_refusal, is_used_from2, is_end, end_count, check_of, Verdict}
 use Rattle.lxtr_spec.specs.declared.refusals.Refusal.{Refusal}
 use Rattle.lxtr_spec.specs.Answers.{number, refusal_of, answer_or}
 use Rattle.lxtr_laws.specs.RefusalChains.{stands}
@@ -13,6 +14,11 @@ use Rattle.lxtr_laws.specs.Failures.{number_not_0}
 module _ (b : List ℕ) where
   pub none_refused_by : header_refusal b ≡ 0 → 0 ≡ body_refusal b → image_refusal b ≡ 0
   none_refused_by z e = sym (body_refused b 0 (sym z) e)
+
+  -- u is whether slot s is a used one from 2 up, l whether it is a leaf
+  pub end_tested : (s : ℕ) (u l : Bool) → u ≡ is_used_from2 b s → l ≡ is_leaf b s → (u && l) ≡ is_end b s
+  unfolding is_end
+  end_tested s u l used leaf = rw (used, leaf)
 
   -- the check passes on the refusal e
   pub check_refused : (r : Result ℕ Refusal) (e : Refusal) → IsErrAnd r (λ y. y ≡ e) → number e ≡ image_refusal b

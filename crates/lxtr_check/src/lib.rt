@@ -86,7 +86,6 @@ pub fn accept(image: &[u8]) -> Result<AcceptedImage<'_>, Refusal>
 }
 
 // Whether slot s is a key's end, of bytes that passed refusals 1 to 6.
-#[tactic(auto, unfolding(lxtr_spec::specs::Refusals::is_end))]
 pub fn is_end(image: &[u8], s: u32) -> bool
     requires whole { Whole image.now }
     requires s_bound { s < slot_count image.now }
