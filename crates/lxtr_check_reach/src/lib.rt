@@ -41,7 +41,8 @@ fn unreachable(slots: &Slots, s: u32) -> bool
     let mut at = s;
     for _ in 0..STEPS / STRIDE {
         at = ancestor(slots, at, STRIDE);
-        if at == 0 {
+        let at_slot_0 = at == 0;
+        if at_slot_0 {
             return false;
         }
     }

@@ -12,11 +12,11 @@ pub loop-preserved : goal.loop-preserved
 unfolding max_labels
 loop-preserved c = ascend_by _ _ _ _ _ c.loop.invariant 8 _ _ (omega arith) c.ancestor-at.ensures.value c.ancestor-at.ensures.upper_bound
 
-pub returns-then-at-eq0 : goal.returns-then-at-eq0
+pub returns-then-at_slot_0 : goal.returns-then-at_slot_0
 unfolding max_labels
-returns-then-at-eq0 c =
+returns-then-at_slot_0 c =
     reach_found _ _ _ _ (ascend_by _ _ _ _ _ c.loop.invariant 8 (66 - 8 * (c.loop.counter + 1)) _ (omega arith) c.ancestor-at.ensures.value c.ancestor-at.ensures.upper_bound)
-    c.image.ensures.passed.whole c.image.ensures.right c.requires c.if-at-eq0.true
+    c.image.ensures.passed.whole c.image.ensures.right c.requires c.if-at_slot_0.true
 
 pub returns : goal.returns
 unfolding max_labels
