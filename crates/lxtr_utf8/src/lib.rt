@@ -16,18 +16,25 @@ use lxtr_command_spec::TextProblem;
 // The byte order mark, U+FEFF in UTF-8.
 const MARK: &[u8] = b"\xEF\xBB\xBF";
 
-// How many labels the text has, or that it is not UTF-8.
-pub fn count_labels(text: &[u8]) -> Result<usize, TextProblem>
+// The same as `count_labels`. Out of line, so that `count_labels` stays small enough to be inlined.
+#[inline(never)]
+fn count_characters(text: &[u8]) -> Result<usize, TextProblem>
     ensures { decoded_in result ≡ count_of text.now }
 {
-    // Most lines are ASCII or empty: these have as many labels as bytes.
-    if text.is_ascii() {
-        return Ok(text.len());
-    }
     match str::from_utf8(text) {
         Ok(s) => Ok(s.chars().count()),
         Err(_) => Err(TextProblem::NotUtf8),
     }
+}
+
+// How many labels the text has, or that it is not UTF-8. Whether it is ASCII is asked first, because many lines are short or empty.
+pub fn count_labels(text: &[u8]) -> Result<usize, TextProblem>
+    ensures { decoded_in result ≡ count_of text.now }
+{
+    if text.is_ascii() {
+        return Ok(text.len());
+    }
+    count_characters(text)
 }
 
 // Writes the labels of a text to the front of room that is long enough.

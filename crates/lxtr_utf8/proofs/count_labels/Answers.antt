@@ -1,18 +1,6 @@
--- The characters of a text are its labels.
-use Rattle.std.proofs.Common.{rules, ◌≡◌, length}
-use Rattle.std.specs.Str.{chars}
-use Rattle.std.proofs.lemmas.Str.{chars_from_encodes}
-use Rattle.lxtr_utf8.specs.Decoding.{counted_ascii, counted_ok, counted_wrong}
+-- The bytes of an ASCII text are its labels.
+use Rattle.lxtr_utf8.specs.Decoding.{counted_ascii}
 use Rattle.lxtr_utf8.proofs.count_labels.Goals as goal
 
 pub returns-then-is_ascii : goal.returns-then-is_ascii
 returns-then-is_ascii c = counted_ascii c.args.text.now (rw c.if-is_ascii.true at c.is_ascii.ensures.cases)
-
-pub returns-in-Ok : goal.returns-in-Ok
-returns-in-Ok c =
-    let p = c.in-Ok.ensures.cases in
-    let n : c.count.result ≡ length (chars c.args.text.now) = rw (← p.0) (search (rules, chars_from_encodes)) in
-    counted_ok c.args.text.now p.1 _ n
-
-pub returns-in-Err : goal.returns-in-Err
-returns-in-Err c = counted_wrong c.args.text.now c.in-Err.ensures.cases.0
