@@ -3,7 +3,7 @@ ghost use Rattle.std.specs.Prelude.{◌≡◌};
 ghost use Rattle.lxtr_command_spec.specs.WordLists.{lines_of, word_problem, first_problem};
 ghost use Rattle.lxtr_words.specs.Problems.{found_in, word_found};
 
-use crate::lines::{line_end, word_at};
+use crate::lines::{line_at, word_of};
 use lxtr_command_spec::WordProblem;
 use lxtr_spec::MAX_LABELS;
 use lxtr_utf8::count_labels;
@@ -23,16 +23,17 @@ fn word_problem(word: &[u8], line: usize) -> Option<WordProblem>
 pub fn first_problem(text: &[u8]) -> Option<WordProblem>
     ensures { found_in result ≡ first_problem 1 (lines_of text.now) }
 {
-    let mut line: usize = 1;
+    let mut number: usize = 1;
     let mut at: usize = 0;
     // No `for`: a line starts where the one before it ends.
     while at <= text.len() {
-        let problem = word_problem(word_at(text, at), line);
+        let line = line_at(text, at);
+        let problem = word_problem(word_of(line), number);
         if problem.is_some() {
             return problem;
         }
-        at = line_end(text, at) + 1;
-        line += 1;
+        at = at + line.len() + 1;
+        number += 1;
     }
     None
 }
