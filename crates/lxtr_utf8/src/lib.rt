@@ -16,7 +16,7 @@ use lxtr_command_spec::TextProblem;
 // The byte order mark, U+FEFF in UTF-8.
 const MARK: &[u8] = b"\xEF\xBB\xBF";
 
-// The same as `count_labels`. Out of line, so that `count_labels` stays small enough to be inlined.
+// The same as `count_labels`. Out of line, so that `count_labels` stays small.
 #[inline(never)]
 fn count_characters(text: &[u8]) -> Result<usize, TextProblem>
     ensures { decoded_in result ≡ count_of text.now }
@@ -27,7 +27,9 @@ fn count_characters(text: &[u8]) -> Result<usize, TextProblem>
     }
 }
 
-// How many labels the text has, or that it is not UTF-8. Whether it is ASCII is asked first, because many lines are short or empty.
+// How many labels the text has, or that it is not UTF-8. Whether it is ASCII is asked first and without a call, because many texts
+// are short or empty.
+#[inline(always)]
 pub fn count_labels(text: &[u8]) -> Result<usize, TextProblem>
     ensures { decoded_in result ≡ count_of text.now }
 {

@@ -24,7 +24,7 @@ fn rest_at(text: &[u8], at: usize) -> &[u8]
 }
 
 // The line that starts at `at`: up to the first line feed, or to the end of the text.
-pub fn line_at(text: &[u8], at: usize) -> &[u8]
+pub(crate) fn line_at(text: &[u8], at: usize) -> &[u8]
     ensures { result.now ≡ line_at text.now at }
 {
     let rest = rest_at(text, at);
@@ -43,7 +43,7 @@ pub fn line_end(text: &[u8], at: usize) -> usize
 }
 
 // The word of a line: without a carriage return at its end.
-pub fn word_of(line: &[u8]) -> &[u8]
+pub(crate) fn word_of(line: &[u8]) -> &[u8]
     ensures { result.now ≡ word_of line.now }
 {
     line.strip_suffix(CARRIAGE_RETURN).unwrap_or(line)
