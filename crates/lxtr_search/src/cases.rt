@@ -16,11 +16,12 @@ pub fn case_at(image: &Image, slot: Option<u32>) -> Case
     let Some(n) = slot else {
         return Case::Neither;
     };
-    match (value_at(image, n), longer_at(image, n)) {
-        (None, false) => Case::Neither,
-        (None, true) => Case::PrefixOnly,
-        (Some(v), false) => Case::ExactOnly(v),
-        (Some(v), true) => Case::ExactAndPrefix(v),
+    let longer = longer_at(image, n);
+    match value_at(image, n) {
+        None if longer => Case::PrefixOnly,
+        None => Case::Neither,
+        Some(v) if longer => Case::ExactAndPrefix(v),
+        Some(v) => Case::ExactOnly(v),
     }
 }
 
