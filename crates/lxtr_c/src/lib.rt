@@ -218,7 +218,10 @@ fn typing_answered(answer: Result<usize, TypingRefusal>, state: State, bytes: &m
             put_state(state, bytes);
             host_number(0, false, false, (count % 0x1_0000_0000) as u32)
         }
-        Err(refusal) => host_number(refusal.number(), false, false, 0),
+        Err(refusal) => {
+            // The bytes stay.
+            host_number(refusal.number(), false, false, 0)
+        }
     }
 }
 
